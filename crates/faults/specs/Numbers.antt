@@ -1,0 +1,37 @@
+-- The number, layer and place of every refusal.
+use Prim.Native.Nat.{ℕ}
+use Rattle.faults.specs.declared.Report.{Report}
+use Rattle.faults.specs.declared.FileFault as file
+use Rattle.faults.specs.declared.FileFault.{FileFault}
+use Rattle.faults.specs.declared.ListFault as list
+use Rattle.faults.specs.declared.ListFault.{ListFault}
+use Rattle.faults.specs.declared.DocumentFault as document
+use Rattle.faults.specs.declared.DocumentFault.{DocumentFault}
+use Rattle.faults.specs.declared.Fault.{Fault}
+use Rattle.faults.specs.declared.Fault.the-variants.{File, List, Document}
+
+abbrev pub report : ℕ → ℕ → ℕ → Report
+report n l p = record { number = n; layer = l; place = p }
+
+abbrev pub told-file : FileFault → Report
+told-file (file.the-variants.Length p) = report 1 1 p
+told-file (file.the-variants.Structure p) = report 2 1 p
+told-file (file.the-variants.Misformed p) = report 3 1 p
+told-file file.the-variants.TableShort = report 22 1 0
+
+abbrev pub told-list : ListFault → Report
+told-list (list.the-variants.Structure p) = report 2 2 p
+told-list (list.the-variants.Misformed p) = report 3 2 p
+
+abbrev pub told-document : DocumentFault → Report
+told-document document.the-variants.ScratchShort = report 21 3 0
+told-document (document.the-variants.Misformed p) = report 3 3 p
+told-document (document.the-variants.IdentifierTwice p) = report 4 3 p
+told-document (document.the-variants.OutOfOrder p) = report 5 3 p
+told-document (document.the-variants.NameTwice p) = report 6 3 p
+told-document (document.the-variants.NoRoom p) = report 7 3 p
+
+abbrev pub told : Fault → Report
+told (File f) = told-file f
+told (List f) = told-list f
+told (Document f) = told-document f

@@ -1,0 +1,5 @@
+pub mod Bytes
+pub mod Reading
+pub mod Writing
+pub mod Accepted
+pub mod Handed

@@ -1,0 +1,4 @@
+pub mod Scratch
+pub mod Order
+pub mod Keys
+pub mod Tested

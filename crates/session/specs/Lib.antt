@@ -1,0 +1,4 @@
+pub mod Lines
+pub mod Outline
+pub mod Printed
+pub mod Opened
