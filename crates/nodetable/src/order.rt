@@ -16,7 +16,7 @@ pub fn still_open(parent: u32, elements: &[Slot]) -> usize
     ensures kept { λ r. ⌜ open-ids (take r (now (elements .entry))) ≡ closed-to parent (open-ids (now (elements .entry))) ⌝ }
 {
     let mut count = elements.len();
-    while count > 0 && elements[count - 1].id != parent {
+    while count > 0 && !elements[count - 1].is_for(parent) {
         count -= 1;
     }
     count
@@ -27,7 +27,7 @@ fn is_innermost(parent: u32, elements: &[Slot]) -> bool
     ensures { λ r. ⌜ r ≡ innermost parent (open-ids (now (elements .entry))) ⌝ }
 {
     match elements.last() {
-        Some(slot) => slot.id == parent,
+        Some(slot) => slot.is_for(parent),
         None => false,
     }
 }

@@ -1,5 +1,6 @@
 // Scratch memory, lent for the length of a call and handed back all zeros.
 ghost use mathlib.Core.Path.{_≡_};
+ghost use lib.Dec.{eqb};
 ghost use Rattle.nodetable.specs.Scratch.{cleared};
 
 // An identifier, a name and a place; the order is by these in turn.
@@ -16,6 +17,12 @@ impl Slot {
         name: 0,
         place: 0,
     };
+
+    pub fn is_for(&self, id: u32) -> bool
+        ensures { λ r. ⌜ r ≡ eqb (now (self .entry) .id) id ⌝ }
+    {
+        self.id == id
+    }
 }
 
 pub fn clear(slots: &mut [Slot])

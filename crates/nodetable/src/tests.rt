@@ -1,8 +1,8 @@
 // The tests in their order, each over the whole table.
 ghost use mathlib.Core.Path.{_≡_};
 ghost use Prim.Native.Nat.{_≤_};
-ghost use lib.ListN.{length};
-ghost use Rattle.document.specs.Table.{misformed-from, table-test};
+ghost use lib.ListN.{length, drop};
+ghost use Rattle.document.specs.Table.{misformed-from, over-room, table-test};
 ghost use Rattle.nodetable.specs.Scratch.{cleared};
 ghost use Rattle.nodetable.specs.Tested.{tested};
 use crate::order::first_out_of_order;
@@ -13,15 +13,29 @@ use crate::scratch::Slot;
 use faults::DocumentFault;
 use records::Node;
 
-pub fn first_misformed(nodes: &[Node]) -> Option<usize>
-    ensures { λ r. ⌜ r ≡ misformed-from 0 (now (nodes .entry)) ⌝ }
+// The first misformed node from a place on.
+fn misformed_behind(nodes: &[Node], start: usize) -> Option<usize>
+    ensures { λ r. ⌜ r ≡ misformed-from start (drop start (now (nodes .entry))) ⌝ }
 {
-    for (place, node) in nodes.iter().enumerate() {
-        if !node.is_formed() {
+    for place in start..nodes.len() {
+        if !nodes[place].is_formed() {
             return Some(place);
         }
     }
     None
+}
+
+pub fn first_misformed(nodes: &[Node]) -> Option<usize>
+    ensures { λ r. ⌜ r ≡ misformed-from 0 (now (nodes .entry)) ⌝ }
+{
+    misformed_behind(nodes, 0)
+}
+
+// The room, where there are more nodes.
+fn room_passed(room: usize, nodes: &[Node]) -> Option<usize>
+    ensures { λ r. ⌜ r ≡ over-room room (now (nodes .entry)) ⌝ }
+{
+    if nodes.len() > room { Some(room) } else { None }
 }
 
 // The tests in their order. The slots, at least as many as the nodes, are left as the tests used them.
@@ -41,8 +55,8 @@ fn test_in(room: usize, nodes: &[Node], slots: &mut [Slot]) -> Result<(), Docume
     if let Some(place) = first_repeat(Key::AttributeName, nodes, slots) {
         return Err(DocumentFault::NameTwice(place));
     }
-    if nodes.len() > room {
-        return Err(DocumentFault::NoRoom(room));
+    if let Some(place) = room_passed(room, nodes) {
+        return Err(DocumentFault::NoRoom(place));
     }
     Ok(())
 }

@@ -18,9 +18,9 @@ pub returns-in-Some-first-repeat-2 : need.returns-in-Some-first-repeat-2
 unfolding table-test
 returns-in-Some-first-repeat-2 c = search needs
 
-pub returns-then-nodes-room : need.returns-then-nodes-room
+pub returns-in-Some-room-passed : need.returns-in-Some-room-passed
 unfolding table-test
-returns-then-nodes-room c = search needs
+returns-in-Some-room-passed c = search needs
 
 pub returns : need.returns
 unfolding table-test

@@ -9,7 +9,7 @@ use Rattle.std.proofs.shelf.Lists.{at-drop-more, at-drop-all}
 use Rattle.records.specs.Formed.{formed-node}
 use Rattle.records.specs.declared.nodes.Node.{Node}
 use Rattle.document.specs.Table.{misformed-from}
-use Rattle.nodetable.proofs.tests.first_misformed.Needs as need
+use Rattle.nodetable.proofs.tests.misformed_behind.Needs as need
 
 misformed-on : (xs : List Node) (i : ℕ) (d : Node) (formed : Bool) → i < length xs → formed ≡ formed-node (getD xs i d)
     → misformed-from i (drop i xs) ≡ cond formed (misformed-from (i + 1) (drop (i + 1) xs)) (Some i)
