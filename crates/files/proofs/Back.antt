@@ -13,14 +13,14 @@ use Rattle.std.proofs.shelf.Ways.{tells}
 use Rattle.std.specs.Options.{isSome}
 use Rattle.std.specs.declared.option.Option.{Option}
 use Rattle.std.specs.declared.option.Option.the-variants.{Some, None}
-use Rattle.records.specs.declared.codec.Record.{Record}
+use Rattle.codec.specs.declared.spelling.Record.{Record}
 use Rattle.records.specs.declared.nodes.Node.{Node}
 use Rattle.records.specs.declared.operations.Operation.{Operation}
 use Rattle.records.specs.declared.operations.Code.{Code}
 use Rattle.records.specs.declared.operations.Code.the-variants.{InsertBefore, InsertAfter, InsertFirst, InsertInto, InsertLast, InsertAttributes, Delete, ReplaceNode, ReplaceValue, ReplaceContent, Rename}
 use Rattle.records.specs.Formed.{kind-of, code-number, formed-node, formed-operation}
-use Rattle.records.specs.Fields.{node-of, operation-of, record-of-node, record-of-operation}
-use Rattle.records.proofs.Spelled.{some-none, node-back, operation-back, node-from, operation-from}
+use Rattle.codec.specs.Fields.{node-of, operation-of, record-of-node, record-of-operation}
+use Rattle.codec.proofs.Spelled.{some-none, node-back, operation-back, node-from, operation-from}
 use Rattle.files.specs.Reading.{due-after, ill-built, structure-from, spells, misformed-from, and-some, operations-in, nodes-in}
 use Rattle.files.specs.Writing.{document-records, list-records, counts-from, all-formed, misformed-list-from}
 

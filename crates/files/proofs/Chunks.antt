@@ -6,11 +6,11 @@ use native.Mathlib.Omega.{arith}
 use lib.ListN.{length, take, drop, getD, length-append, length-drop, length-map}
 use Rattle.std.proofs.shelf.Lists.{take-append-drop, length-take-le, take-at, drop-at, drop-drop, drop-more, getD-default}
 use Rattle.std.specs.declared.option.Option.the-variants.{None}
-use Rattle.records.specs.declared.codec.Record.{Record}
+use Rattle.codec.specs.declared.spelling.Record.{Record}
 use Rattle.records.specs.declared.nodes.Node.{Node}
 use Rattle.records.specs.declared.operations.Operation.{Operation}
 use Rattle.records.specs.declared.operations.Code.the-variants.{InsertBefore}
-use Rattle.records.specs.Fields.{record-of-node, record-of-operation}
+use Rattle.codec.specs.Fields.{record-of-node, record-of-operation}
 use Rattle.files.specs.Writing.{document-records, list-records, counts-from}
 use Rattle.files.proofs.Back.{counts-first, none-left}
 

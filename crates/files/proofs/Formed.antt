@@ -16,7 +16,7 @@ use Rattle.records.specs.declared.operations.Operation.{Operation}
 use Rattle.records.specs.Formed.{formed-node, formed-operation}
 use Rattle.document.specs.Table.{misformed-from}
 use Rattle.files.specs.Writing.{counts-from, all-formed, formed-with, misformed-list-from}
-use Rattle.records.proofs.Spelled.{some-none}
+use Rattle.codec.proofs.Spelled.{some-none}
 
 -- no node of a table is misformed exactly when all are formed
 pub none-misformed : (n : ℕ) (xs : List Node) → isSome (misformed-from n xs) ≡ not (all-formed xs)

@@ -9,11 +9,11 @@ use lib.ListN.{length, getD, take, drop, length-drop}
 use borrow.Author.Tests.{ltb-false}
 use Rattle.std.specs.Options.{isSome}
 use Rattle.std.specs.declared.option.Option.the-variants.{Some, None}
-use Rattle.records.specs.declared.codec.Record.{Record}
+use Rattle.codec.specs.declared.spelling.Record.{Record}
 use Rattle.records.specs.declared.operations.Operation.{Operation}
 use Rattle.records.specs.Formed.{kind-of}
-use Rattle.records.specs.Fields.{operation-of}
-use Rattle.records.proofs.Spelled.{operation-back}
+use Rattle.codec.specs.Fields.{operation-of}
+use Rattle.codec.proofs.Spelled.{operation-back}
 use Rattle.faults.specs.declared.FileFault.the-variants.{Structure, Misformed}
 use Rattle.files.specs.Bytes.{records}
 use Rattle.files.specs.Handed.{Step, end, gives, fault, step-operation, step-of}

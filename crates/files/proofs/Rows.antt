@@ -6,11 +6,11 @@ use native.Mathlib.Omega.{arith}
 use native.Mathlib.Numerals.{add-one}
 use lib.ListN.{length, getD, take, drop, length-append, length-drop}
 use Rattle.std.proofs.shelf.Lists.{drop-drop, take-append-drop, drop-all, getD-drop, nil-from-length, drop-at, take-at, length-take-le}
-use Rattle.records.specs.declared.codec.Record.{Record}
-use Rattle.records.specs.Codec.{record-of, bytes-of, first-record}
+use Rattle.codec.specs.declared.spelling.Record.{Record}
+use Rattle.codec.specs.Codec.{record-of, bytes-of, first-record}
 use Rattle.std.specs.declared.option.Option.the-variants.{Some}
 use borrow.Author.Tests.{le-ltb}
-use Rattle.records.proofs.Bytes.{record-back}
+use Rattle.codec.proofs.Bytes.{record-back}
 use Rattle.files.specs.Bytes.{records-in, records, file-of, over, patched, Spelt}
 
 records-in-at : (n k : ℕ) (bs : List ℕ) (d : Record) → k < n → getD (records-in n bs) k d ≡ record-of (drop (16 * k) bs)

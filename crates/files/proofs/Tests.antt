@@ -8,14 +8,14 @@ use lib.ListN.{length, getD, drop, length-drop}
 use Rattle.std.proofs.shelf.Lists.{drop-more, drop-all}
 use Rattle.std.specs.declared.option.Option.{Option}
 use Rattle.std.specs.declared.option.Option.the-variants.{Some, None}
-use Rattle.records.specs.declared.codec.Record.{Record}
+use Rattle.codec.specs.declared.spelling.Record.{Record}
 use Rattle.files.specs.Bytes.{records}
 use Rattle.files.specs.Reading.{due-after, ill-built, structure-from, spells, misformed-from, operations-in, nodes-in}
 use lib.Dec.{eqb}
 use Rattle.records.specs.declared.nodes.Node.{Node}
 use Rattle.records.specs.declared.operations.Operation.{Operation}
-use Rattle.records.specs.Fields.{node-of, operation-of}
-use Rattle.records.proofs.Spelled.{some-none}
+use Rattle.codec.specs.Fields.{node-of, operation-of}
+use Rattle.codec.proofs.Spelled.{some-none}
 use Rattle.files.proofs.Rows.{length-records}
 
 -- the records from a place on begin with the one there

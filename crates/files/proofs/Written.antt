@@ -12,10 +12,10 @@ use Rattle.std.specs.declared.option.Option.{Option}
 use Rattle.std.specs.declared.option.Option.the-variants.{Some, None}
 use Rattle.std.specs.declared.result.Result.{Result}
 use Rattle.std.specs.declared.result.Result.the-variants.{Ok, Err}
-use Rattle.records.specs.declared.codec.Record.{Record}
+use Rattle.codec.specs.declared.spelling.Record.{Record}
 use Rattle.records.specs.declared.nodes.Node.{Node}
 use Rattle.records.specs.declared.operations.Operation.{Operation}
-use Rattle.records.specs.Fields.{record-of-node}
+use Rattle.codec.specs.Fields.{record-of-node}
 use Rattle.document.specs.Table.{misformed-from as misformed-node-from}
 use Rattle.files.specs.Accepted.{ReadsDocument, ReadsList}
 use Rattle.files.specs.Bytes.{records, file-of, over, patched, Spelt}

@@ -3,8 +3,8 @@ use mathlib.Core.List.{List, [], _∷_, _++_}
 use mathlib.Core.Path.{_≡_}
 use Prim.Native.Nat.{ℕ, zero, suc, _+_, _/_}
 use lib.ListN.{length, take, drop}
-use Rattle.records.specs.declared.codec.Record.{Record}
-use Rattle.records.specs.Codec.{record-of, bytes-of}
+use Rattle.codec.specs.declared.spelling.Record.{Record}
+use Rattle.codec.specs.Codec.{record-of, bytes-of}
 
 abbrev pub records-in : ℕ → List ℕ → List Record
 records-in zero bs = []

@@ -8,9 +8,9 @@ use Rattle.std.specs.declared.option.Option.{Option}
 use Rattle.std.specs.declared.option.Option.the-variants.{Some, None}
 use Rattle.std.specs.declared.result.Result.{Result}
 use Rattle.std.specs.declared.result.Result.the-variants.{Ok, Err}
-use Rattle.records.specs.declared.codec.Record.{Record}
+use Rattle.codec.specs.declared.spelling.Record.{Record}
 use Rattle.records.specs.declared.operations.Operation.{Operation}
-use Rattle.records.specs.Fields.{operation-of}
+use Rattle.codec.specs.Fields.{operation-of}
 use Rattle.faults.specs.declared.FileFault.{FileFault}
 use Rattle.faults.specs.declared.FileFault.the-variants.{Structure, Misformed}
 use Rattle.files.specs.Bytes.{records}

@@ -9,11 +9,11 @@ use Rattle.std.specs.declared.option.Option.{Option}
 use Rattle.std.specs.declared.option.Option.the-variants.{Some, None}
 use Rattle.std.specs.declared.result.Result.{Result}
 use Rattle.std.specs.declared.result.Result.the-variants.{Ok, Err}
-use Rattle.records.specs.declared.codec.Record.{Record}
+use Rattle.codec.specs.declared.spelling.Record.{Record}
 use Rattle.records.specs.declared.nodes.Node.{Node}
 use Rattle.records.specs.declared.operations.Operation.{Operation}
 use Rattle.records.specs.Formed.{kind-of}
-use Rattle.records.specs.Fields.{node-of, operation-of}
+use Rattle.codec.specs.Fields.{node-of, operation-of}
 use Rattle.faults.specs.declared.FileFault.{FileFault}
 use Rattle.faults.specs.declared.FileFault.the-variants.{Length, Structure, Misformed, TableShort}
 use Rattle.files.specs.Bytes.{records, over}

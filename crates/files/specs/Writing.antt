@@ -8,11 +8,11 @@ use Rattle.std.specs.declared.option.Option.{Option}
 use Rattle.std.specs.declared.option.Option.the-variants.{Some, None}
 use Rattle.std.specs.declared.result.Result.{Result}
 use Rattle.std.specs.declared.result.Result.the-variants.{Ok, Err}
-use Rattle.records.specs.declared.codec.Record.{Record}
+use Rattle.codec.specs.declared.spelling.Record.{Record}
 use Rattle.records.specs.declared.nodes.Node.{Node}
 use Rattle.records.specs.declared.operations.Operation.{Operation}
 use Rattle.records.specs.Formed.{formed-node, formed-operation}
-use Rattle.records.specs.Fields.{record-of-node, record-of-operation}
+use Rattle.codec.specs.Fields.{record-of-node, record-of-operation}
 use Rattle.faults.specs.declared.FileFault.{FileFault}
 use Rattle.faults.specs.declared.FileFault.the-variants.{TableShort}
 use Rattle.faults.specs.declared.ListFault.{ListFault}

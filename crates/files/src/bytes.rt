@@ -6,7 +6,7 @@ ghost use Rattle.std.specs.declared.result.Result.the-variants.{Ok};
 ghost use Rattle.files.specs.Bytes.{records};
 ghost use Rattle.files.specs.Reading.{if-whole};
 use faults::FileFault;
-use records::Record;
+use codec::Record;
 
 // How many records a file has; a file with a part of one is refused.
 pub fn whole_records(bytes: &[u8]) -> Result<usize, FileFault>

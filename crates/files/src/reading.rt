@@ -13,7 +13,7 @@ use faults::FileFault;
 use records::Kind;
 use records::Node;
 use records::Operation;
-use records::Record;
+use codec::Record;
 
 // How many nodes are due behind a record.
 fn due_after(due: usize, found: Record) -> usize

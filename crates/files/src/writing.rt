@@ -4,13 +4,13 @@ ghost use mathlib.Core.List.{_∷_};
 ghost use Prim.Native.Nat.{ℕ, _+_, _*_, _≤_};
 ghost use lib.ListN.{length};
 ghost use Rattle.std.specs.declared.option.Option.the-variants.{None};
-ghost use Rattle.records.specs.Codec.{bytes-of, record-of};
-ghost use Rattle.records.specs.Fields.{record-of-operation};
+ghost use Rattle.codec.specs.Codec.{bytes-of, record-of};
+ghost use Rattle.codec.specs.Fields.{record-of-operation};
 ghost use Rattle.files.specs.Bytes.{file-of, patched, Spelt};
 ghost use Rattle.files.specs.Writing.{document-records, list-records, counts-from};
 use records::Node;
 use records::Operation;
-use records::Record;
+use codec::Record;
 
 // Writes one record at its place.
 fn put(bytes: &mut [u8], place: usize, written: Record)
@@ -31,7 +31,7 @@ pub fn put_nodes(bytes: &mut [u8], place: usize, nodes: &[Node])
     ensures spelt { λ _. ⌜ Spelt (document-records (now (nodes .entry))) ⌝ }
 {
     for k in 0..nodes.len() {
-        put(bytes, place + k, nodes[k].record());
+        put(bytes, place + k, Record::of_node(nodes[k]));
     }
 }
 
@@ -41,7 +41,7 @@ fn put_operation(bytes: &mut [u8], place: usize, operation: Operation, nodes: &[
     ensures text { λ _. ⌜ now (bytes .exit) ≡ patched (now (bytes .entry)) (16 * place) (file-of (record-of-operation operation ∷ document-records (now (nodes .entry)))) ⌝ }
     ensures spelt { λ _. ⌜ Spelt (record-of-operation operation ∷ document-records (now (nodes .entry))) ⌝ }
 {
-    put(bytes, place, operation.record());
+    put(bytes, place, Record::of_operation(operation));
     put_nodes(bytes, place + 1, nodes);
 }
 

@@ -1,3 +1,1 @@
 pub mod Formed
-pub mod Codec
-pub mod Fields

@@ -1,10 +1,7 @@
-// Nodes and operations as values, and the sixteen bytes that stand for each in a file.
-mod codec;
-mod fields;
+// Nodes and operations as values.
 mod nodes;
 mod operations;
 
-pub use codec::Record;
 pub use nodes::Kind;
 pub use nodes::Node;
 pub use nodes::NodeDebug;

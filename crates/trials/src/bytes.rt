@@ -1,5 +1,5 @@
 // Files by their records.
-use records::Record;
+use codec::Record;
 use std::alloc::AllocError;
 use std::alloc::Global;
 

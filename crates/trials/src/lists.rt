@@ -22,7 +22,7 @@ use records::NodePartialEq;
 use records::Operation;
 use records::OperationDebug;
 use records::OperationPartialEq;
-use records::Record;
+use codec::Record;
 use std::alloc::Global;
 use std::test::*;
 

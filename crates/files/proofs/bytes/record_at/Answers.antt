@@ -3,7 +3,7 @@ use Prim.Native.Nat.{_*_}
 use native.Mathlib.Omega.{arith}
 use lib.ListN.{length, drop, length-drop}
 use Rattle.std.proofs.shelf.Lists.{take-rest}
-use Rattle.records.specs.Codec.{first-record}
+use Rattle.codec.specs.Codec.{first-record}
 use Rattle.files.proofs.Rows.{record-at, first-spells}
 use Rattle.files.proofs.bytes.record_at.Needs as need
 

@@ -1,7 +1,7 @@
 use mathlib.Core.Path.{_≡_, refl, sym, _∙_, ap, subst}
 use native.Mathlib.Omega.{arith}
 use lib.ListN.{length, length-map}
-use Rattle.records.specs.Fields.{record-of-node}
+use Rattle.codec.specs.Fields.{record-of-node}
 use Rattle.files.specs.Accepted.{ReadsDocument}
 use Rattle.files.specs.Writing.{document-records}
 use Rattle.files.proofs.Written.{room-fits, front-written, reads-document}

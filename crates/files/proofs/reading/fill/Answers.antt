@@ -5,7 +5,7 @@ use native.Mathlib.Omega.{arith}
 use lib.ListN.{length, drop}
 use borrow.Author.Tests.{eq-eqb, ne-eqb}
 use Rattle.std.specs.declared.option.Option.the-variants.{Some, None}
-use Rattle.records.proofs.Spelled.{some-none}
+use Rattle.codec.proofs.Spelled.{some-none}
 use Rattle.files.specs.Bytes.{records}
 use Rattle.files.specs.Reading.{operations-in, nodes-in, misformed-from}
 use Rattle.files.proofs.Tests.{no-record, operations-on-due, nodes-on-due}

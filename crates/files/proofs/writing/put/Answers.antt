@@ -4,7 +4,7 @@ use Prim.Native.Nat.{ℕ, _+_, _-_, _*_, _≤_}
 use native.Mathlib.Omega.{arith}
 use lib.ListN.{length}
 use borrow.Rule.Slice.PartMut.{putMid, post-is}
-use Rattle.records.specs.Codec.{record-of, bytes-of}
+use Rattle.codec.specs.Codec.{record-of, bytes-of}
 use Rattle.files.specs.Bytes.{patched}
 use Rattle.files.proofs.Rows.{length-bytes-of}
 use Rattle.files.proofs.writing.put.Needs as need

@@ -4,7 +4,7 @@ use Prim.Native.Nat.{ℕ, _+_, _-_, _*_, _≤_}
 use native.Mathlib.Omega.{arith}
 use lib.ListN.{length, take, drop, getD, length-drop}
 use Rattle.std.proofs.shelf.Lists.{drop-all, take-all, length-take-le}
-use Rattle.records.specs.Fields.{record-of-operation}
+use Rattle.codec.specs.Fields.{record-of-operation}
 use Rattle.files.specs.Bytes.{file-of, patched, Spelt}
 use Rattle.files.specs.Writing.{document-records, list-records}
 use Rattle.files.proofs.Rows.{file-more, spelt-++}

@@ -3,8 +3,8 @@ use mathlib.Core.List.{List, [], _∷_, _++_}
 use Prim.Native.Nat.{ℕ, _+_, _*_, _≤_}
 use native.Mathlib.Omega.{arith}
 use lib.ListN.{length}
-use Rattle.records.specs.Codec.{record-of, bytes-of}
-use Rattle.records.specs.Fields.{record-of-operation}
+use Rattle.codec.specs.Codec.{record-of, bytes-of}
+use Rattle.codec.specs.Fields.{record-of-operation}
 use Rattle.files.specs.Bytes.{file-of, patched, Spelt}
 use Rattle.files.specs.Writing.{document-records}
 use Rattle.files.proofs.Rows.{file-more, file-of-one}
@@ -14,8 +14,8 @@ pub returns : need.returns
 returns c =
     let one = record-of-operation (c .args .operation) ∷ [] in
     let first : c .put .last .bytes ≡ patched (c .args .bytes .now) (16 * c .args .place) (file-of one) =
-    c .put .ensures .text ∙ ap (patched (c .args .bytes .now) (16 * c .args .place)) (sym (file-of-one (c .record .result)) ∙ ap (λ r. file-of (r ∷ [])) (c .record .ensures)) in
+    c .put .ensures .text ∙ ap (patched (c .args .bytes .now) (16 * c .args .place)) (sym (file-of-one (c .of-operation .result)) ∙ ap (λ r. file-of (r ∷ [])) (c .of-operation .ensures)) in
     record {
       text = file-more (c .args .bytes .now) (c .put .last .bytes) (c .put-nodes .last .bytes) (16 * c .args .place) (16 * (c .args .place + 1)) one (document-records (c .args .nodes .now)) first (omega arith) (omega arith) (c .put-nodes .ensures .text);
-      spelt = (subst (λ r. record-of (bytes-of r) ≡ r) (c .record .ensures) (c .put .ensures .spelt), c .put-nodes .ensures .spelt);
+      spelt = (subst (λ r. record-of (bytes-of r) ≡ r) (c .of-operation .ensures) (c .put .ensures .spelt), c .put-nodes .ensures .spelt);
     }

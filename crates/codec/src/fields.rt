@@ -1,11 +1,11 @@
 // The node or operation that a record spells, and the record of each.
 ghost use mathlib.Core.Path.{_≡_};
-ghost use Rattle.records.specs.Fields.{node-of, record-of-node, operation-of, record-of-operation};
-use crate::codec::Record;
-use crate::nodes::Kind;
-use crate::nodes::Node;
-use crate::operations::Code;
-use crate::operations::Operation;
+ghost use Rattle.codec.specs.Fields.{node-of, record-of-node, operation-of, record-of-operation};
+use crate::spelling::Record;
+use records::Code;
+use records::Kind;
+use records::Node;
+use records::Operation;
 
 impl Record {
     // `None` where the record is no well-formed node.
@@ -47,34 +47,30 @@ impl Record {
             None
         }
     }
-}
 
-impl Node {
-    pub fn record(self) -> Record
-        ensures { λ r. ⌜ r ≡ record-of-node self ⌝ }
+    pub fn of_node(node: Node) -> Record
+        ensures { λ r. ⌜ r ≡ record-of-node node ⌝ }
     {
         Record {
-            key: self.id,
-            link: self.parent,
-            tag: self.kind.number(),
+            key: node.id,
+            link: node.parent,
+            tag: node.kind.number(),
             spare: 0,
-            name: self.name,
-            value: self.value,
+            name: node.name,
+            value: node.value,
         }
     }
-}
 
-impl Operation {
-    pub fn record(self) -> Record
-        ensures { λ r. ⌜ r ≡ record-of-operation self ⌝ }
+    pub fn of_operation(operation: Operation) -> Record
+        ensures { λ r. ⌜ r ≡ record-of-operation operation ⌝ }
     {
         Record {
-            key: self.target,
-            link: self.count,
-            tag: self.code.number(),
+            key: operation.target,
+            link: operation.count,
+            tag: operation.code.number(),
             spare: 0,
-            name: self.name,
-            value: self.value,
+            name: operation.name,
+            value: operation.value,
         }
     }
 }

@@ -3,12 +3,12 @@ use mathlib.Core.Bool.{false}
 use lib.Dec.{ltb}
 use lib.ListN.{length, getD}
 use borrow.Author.Tests.{le-ltb}
-use Rattle.records.specs.declared.codec.Record.{Record}
+use Rattle.codec.specs.declared.spelling.Record.{Record}
 use native.Mathlib.Omega.{arith}
 use borrow.Author.Needs.{needs}
-use Rattle.records.specs.Codec.{record-of, bytes-of}
-use Rattle.records.proofs.Bytes.{record-back}
-use Rattle.records.proofs.codec.Record.read.Needs as need
+use Rattle.codec.specs.Codec.{record-of, bytes-of}
+use Rattle.codec.proofs.Bytes.{record-back}
+use Rattle.codec.proofs.spelling.Record.read.Needs as need
 
 pub returns : need.returns
 unfolding record-of

@@ -7,8 +7,8 @@ use native.Mathlib.Numerals.{add-one}
 use lib.Arith.{digits-div, mod-mul}
 use lib.ListN.{length, getD, take, drop}
 use Rattle.std.proofs.shelf.Lists.{drop-more}
-use Rattle.records.specs.declared.codec.Record.{Record}
-use Rattle.records.specs.Codec.{two-bytes, four-bytes, bytes-of-two, bytes-of-four, record-of, bytes-of}
+use Rattle.codec.specs.declared.spelling.Record.{Record}
+use Rattle.codec.specs.Codec.{two-bytes, four-bytes, bytes-of-two, bytes-of-four, record-of, bytes-of}
 
 two-back : (a b : ℕ) → a < 256 → b < 256 → bytes-of-two (a + b * 256) ≡ a ∷ b ∷ []
 two-back a b p q =

@@ -3,7 +3,7 @@ ghost use mathlib.Core.Path.{_≡_};
 ghost use Prim.Native.Nat.{_+_, _≤_};
 ghost use lib.ListN.{length, take};
 ghost use Rattle.std.specs.Options.{Cases};
-ghost use Rattle.records.specs.Codec.{record-of, bytes-of, first-record, two-bytes, four-bytes, bytes-of-two, bytes-of-four};
+ghost use Rattle.codec.specs.Codec.{record-of, bytes-of, first-record, two-bytes, four-bytes, bytes-of-two, bytes-of-four};
 
 // A record as it stands in a file: a node where `tag` is a kind, an operation where it is a code.
 // `key` is the identifier or the target, `link` the parent or the count.

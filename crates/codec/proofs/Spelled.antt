@@ -8,15 +8,15 @@ use Rattle.std.proofs.shelf.Tests.{eqb-true}
 use Rattle.std.proofs.shelf.Ways.{tells}
 use Rattle.std.specs.declared.option.Option.{Option}
 use Rattle.std.specs.declared.option.Option.the-variants.{Some, None}
-use Rattle.records.specs.declared.codec.Record.{Record}
+use Rattle.codec.specs.declared.spelling.Record.{Record}
 use Rattle.records.specs.declared.nodes.Kind.{Kind}
 use Rattle.records.specs.declared.nodes.Kind.the-variants.{Element, Attribute, Text}
 use Rattle.records.specs.declared.nodes.Node.{Node}
 use Rattle.records.specs.declared.operations.Code.{Code}
 use Rattle.records.specs.declared.operations.Code.the-variants.{InsertBefore, InsertAfter, InsertFirst, InsertInto, InsertLast, InsertAttributes, Delete, ReplaceNode, ReplaceValue, ReplaceContent, Rename}
 use Rattle.records.specs.declared.operations.Operation.{Operation}
 use Rattle.records.specs.Formed.{kind-number, kind-of, formed-node, code-number, code-of, formed-operation}
-use Rattle.records.specs.Fields.{if-formed-node, node-of-kind, node-of, record-of-node, if-formed-operation, operation-of-code, operation-of, record-of-operation}
+use Rattle.codec.specs.Fields.{if-formed-node, node-of-kind, node-of, record-of-node, if-formed-operation, operation-of-code, operation-of, record-of-operation}
 
 kind-back : (k : Kind) → kind-of (kind-number k) ≡ Some k
 kind-back Element = refl

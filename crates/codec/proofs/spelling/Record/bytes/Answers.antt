@@ -3,10 +3,10 @@ use mathlib.Core.List.{List, [], _∷_}
 use Prim.Native.Nat.{ℕ}
 use native.Mathlib.Omega.{arith}
 use lib.ListN.{getD}
-use Rattle.records.specs.declared.codec.Record.{Record}
-use Rattle.records.specs.Codec.{record-of, bytes-of, bytes-of-two, bytes-of-four}
-use Rattle.records.proofs.Bytes.{record-from}
-use Rattle.records.proofs.codec.Record.bytes.Needs as need
+use Rattle.codec.specs.declared.spelling.Record.{Record}
+use Rattle.codec.specs.Codec.{record-of, bytes-of, bytes-of-two, bytes-of-four}
+use Rattle.codec.proofs.Bytes.{record-from}
+use Rattle.codec.proofs.spelling.Record.bytes.Needs as need
 
 joined : (k l n v : List ℕ) (r : Record) → k ≡ bytes-of-four (r .key) → l ≡ bytes-of-four (r .link) → n ≡ bytes-of-two (r .name) → v ≡ bytes-of-four (r .value)
     → getD k 0 0 ∷ getD k 1 0 ∷ getD k 2 0 ∷ getD k 3 0 ∷ getD l 0 0 ∷ getD l 1 0 ∷ getD l 2 0 ∷ getD l 3 0 ∷ r .tag ∷ r .spare

@@ -3,12 +3,12 @@ use mathlib.Core.Bool.{cond}
 use lib.Dec.{eqb}
 use Rattle.std.specs.declared.option.Option.{Option}
 use Rattle.std.specs.declared.option.Option.the-variants.{Some, None}
-use Rattle.records.specs.declared.codec.Record.{Record}
+use Rattle.codec.specs.declared.spelling.Record.{Record}
 use Rattle.records.specs.declared.nodes.Kind.{Kind}
 use Rattle.records.specs.declared.nodes.Node.{Node}
 use Rattle.records.specs.declared.operations.Code.{Code}
 use Rattle.records.specs.declared.operations.Operation.{Operation}
 use Rattle.records.specs.Formed.{kind-number, kind-of, formed-node, code-number, code-of, formed-operation}
 
 abbrev pub if-formed-node : Node → Option Node
 if-formed-node n = cond (formed-node n) (Some n) None
