@@ -18,10 +18,10 @@ use Rattle.faults.specs.declared.DocumentFault.{DocumentFault}
 use Rattle.faults.specs.declared.Fault.the-variants.{File, Document}
 use Rattle.document.specs.Table.{table-test}
 use Rattle.nodetable.specs.Tested.{tested}
-use Rattle.files.specs.Bytes.{records, over}
-use Rattle.files.specs.Reading.{misformed-from, at-fault, then, document-nodes, document-read}
-use Rattle.files.proofs.Rows.{length-records}
-use Rattle.files.proofs.Back.{all-nodes}
+use Rattle.reader.specs.Bytes.{records, over}
+use Rattle.reader.specs.Reading.{misformed-from, at-fault, then, document-nodes, document-read}
+use Rattle.reader.proofs.Rows.{length-records}
+use Rattle.reader.proofs.Back.{all-nodes}
 use Rattle.session.specs.Printed.{longest, most-records, room, if-document, if-file, document-in}
 use Rattle.session.specs.Opened.{Listed}
 

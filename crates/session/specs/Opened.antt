@@ -8,7 +8,7 @@ use Rattle.std.specs.declared.result.Result.the-variants.{Ok, Err}
 use Rattle.records.specs.declared.nodes.Node.{Node}
 use Rattle.faults.specs.declared.Fault.{Fault}
 use Rattle.document.specs.Table.{table-test, document-of}
-use Rattle.files.specs.Reading.{document-nodes}
+use Rattle.reader.specs.Reading.{document-nodes}
 use Rattle.session.specs.Printed.{room, document-in}
 
 -- the first `count` nodes of the table are those of the input, and list its document

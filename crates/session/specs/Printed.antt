@@ -15,7 +15,7 @@ use Rattle.faults.specs.declared.Fault.the-variants.{File, Document}
 use Rattle.faults.specs.Numbers.{told}
 use Rattle.document.specs.Tree.{Forest}
 use Rattle.document.specs.Table.{table-test, document-of}
-use Rattle.files.specs.Reading.{document-nodes, document-read}
+use Rattle.reader.specs.Reading.{document-nodes, document-read}
 use Rattle.session.specs.Lines.{ok-line, refusal-line, document-lines}
 
 -- the longest input, the records that it can hold, and the nodes that a document may have

@@ -9,9 +9,9 @@ use faults::Fault;
 use faults::FaultFromDocument;
 use faults::FaultFromFile;
 use faults::FileFault;
-use files::read_document;
 use nodetable::Slot;
 use nodetable::test_table;
+use reader::read_document;
 use records::Node;
 
 // Reads the nodes of the input over the front of the table, and tells how many there are, if they list a document. The slots

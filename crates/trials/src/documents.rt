@@ -8,17 +8,17 @@ use faults::FaultPartialEq;
 use faults::FileFault;
 use faults::FileFaultDebug;
 use faults::FileFaultPartialEq;
-use files::read_document;
-use files::write_document;
 use nodetable::Slot;
 use nodetable::SlotDebug;
 use nodetable::SlotPartialEq;
 use nodetable::test_table;
+use reader::read_document;
 use records::Kind;
 use records::Node;
 use records::NodeDebug;
 use records::NodePartialEq;
 use std::test::*;
+use writer::write_document;
 
 const FRAME: Node = Node {
     id: 1,

@@ -2,6 +2,7 @@
 use crate::bytes::file;
 use crate::bytes::node;
 use crate::bytes::operation;
+use codec::Record;
 use faults::Fault;
 use faults::FaultDebug;
 use faults::FaultPartialEq;
@@ -9,9 +10,8 @@ use faults::FileFault;
 use faults::FileFaultDebug;
 use faults::FileFaultPartialEq;
 use faults::ListFault;
-use files::ListReader;
-use files::read_list;
-use files::write_list;
+use reader::ListReader;
+use reader::read_list;
 use records::Code;
 use records::CodeDebug;
 use records::CodePartialEq;
@@ -22,9 +22,9 @@ use records::NodePartialEq;
 use records::Operation;
 use records::OperationDebug;
 use records::OperationPartialEq;
-use codec::Record;
 use std::alloc::Global;
 use std::test::*;
+use writer::write_list;
 
 // Delete 3; replace 5 by element 30; insert elements 31 and 32 before 5.
 fn change() -> [Record; 6] {

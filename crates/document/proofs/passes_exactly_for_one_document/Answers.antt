@@ -7,6 +7,7 @@ use Rattle.document.proofs.Passes.{listing-passes}
 use Rattle.document.proofs.passes_exactly_for_one_document.Needs as need
 
 pub returns : need.returns
-returns c room xs =
-    (λ h. let p = passing-lists-document room xs h in (document-of xs, p .0, p .1, p .2, λ e w l. sym (listing-gives-document e w) ∙ ap document-of l),
-      λ d w h l. subst (λ ys. table-test room ys ≡ Ok tt) l (listing-passes room d w h))
+returns c room xs = (
+  λ h. let p = passing-lists-document room xs h in (document-of xs, p .0, p .1, p .2, λ e w l. sym (listing-gives-document e w) ∙ ap document-of l),
+  λ d w h l. subst (λ ys. table-test room ys ≡ Ok tt) l (listing-passes room d w h),
+)

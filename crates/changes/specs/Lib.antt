@@ -1,0 +1,11 @@
+pub mod Changes
+pub mod Stages
+pub mod Marks
+pub mod Reduced
+pub mod Inverse
+pub mod Overriding
+pub mod Tests
+pub mod Tables
+pub mod Order
+pub mod Cases
+pub mod Statements

@@ -1,9 +1,0 @@
-pub mod Rows
-pub mod Tests
-pub mod Filling
-pub mod Back
-pub mod Accepting
-pub mod Handing
-pub mod Chunks
-pub mod Formed
-pub mod Written

@@ -1,5 +1,0 @@
-pub mod Bytes
-pub mod Reading
-pub mod Writing
-pub mod Accepted
-pub mod Handed

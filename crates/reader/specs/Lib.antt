@@ -1,0 +1,5 @@
+pub mod Bytes
+pub mod Layout
+pub mod Reading
+pub mod Accepted
+pub mod Handed

@@ -1,0 +1,4 @@
+pub mod Passing
+pub mod Chunks
+pub mod Formed
+pub mod Written
