@@ -46,23 +46,27 @@ kept-brings-nothing w a e = rw (kept-not-replaced (a .replaced) (a .deleted) e)
 
 module _ (w : ℕ → ℕ) where
   pub inverse-balances : (m : MarkedForest) → without-overridden m ≡ m → Gathered m → Fit m
-    → weigh w (unmark (inverse-marks m)) + (brought w (inverse-marks m) + weigh w (removed-run m)) ≡ weigh w (unmark m) + brought w m
+      → weigh w (unmark (inverse-marks m)) + (brought w (inverse-marks m) + weigh w (removed-run m)) ≡ weigh w (unmark m) + brought w m
   inverse-balances no-marks s g h = refl
   inverse-balances (marked r a as′ k f) s g h =
       go (removed a) (a .content) refl refl (λ q. inverse-balances k q (g .1) (h .2)) (inverse-balances f behind (g .2) (h .3))
     where
       behind : without-overridden f ≡ f
       behind = cc
+
       own : left-on-node a ≡ a
       own = cc
+
       labels : cond (removed a) (cleared-labels as′) (left-on-labels as′) ≡ as′
       labels = cc
+
       below : cond (removed a || is-some (a .content)) (cleared k) (without-overridden k) ≡ k
       below = cc
+
       go : (b : Bool) (o : Option Forest) → removed a ≡ b → a .content ≡ o
-        → (without-overridden k ≡ k → weigh w (unmark (inverse-marks k)) + (brought w (inverse-marks k) + weigh w (removed-run k)) ≡ weigh w (unmark k) + brought w k)
-        → weigh w (unmark (inverse-marks f)) + (brought w (inverse-marks f) + weigh w (removed-run f)) ≡ weigh w (unmark f) + brought w f
-        → weigh w (unmark (inverse-marks (marked r a as′ k f))) + (brought w (inverse-marks (marked r a as′ k f)) + weigh w (removed-run (marked r a as′ k f)))
+          → (without-overridden k ≡ k → weigh w (unmark (inverse-marks k)) + (brought w (inverse-marks k) + weigh w (removed-run k)) ≡ weigh w (unmark k) + brought w k)
+          → weigh w (unmark (inverse-marks f)) + (brought w (inverse-marks f) + weigh w (removed-run f)) ≡ weigh w (unmark f) + brought w f
+          → weigh w (unmark (inverse-marks (marked r a as′ k f))) + (brought w (inverse-marks (marked r a as′ k f)) + weigh w (removed-run (marked r a as′ k f)))
           ≡ weigh w (unmark (marked r a as′ k f)) + brought w (marked r a as′ k f)
       go true o e q hk hf =
           let u : left-on-removed a ≡ a = rw e at own in
@@ -81,10 +85,29 @@ module _ (w : ℕ → ℕ) where
           let last : weigh w (a .last) ≡ 0 = ap (weigh w) (g .0 .2) in
           let content : weigh w (or-else (a .content) nil) ≡ 0 = rw q in
           let ih = hk (rw (e, q) at below) in
-          rw (e, q) (simp (unmark-⊞, unmark-taken-out, brought-⊞, taken-out-brings, unmark-insert-all-marked, unmark-labels-taken-out, unmark-labels-undone,
-              labels-taken-out-bring, labels-undone-bring, weigh-childless, weigh-insert-labels, weigh-labels-++)
-            (omega (arith, kept-and-removed w as′, replacing-weighs w as′ (h .1), among-weighs w (r .kind) (a .attributes) (h .0 .attributes), kept-brings-nothing w a e,
-              weigh-⊕ w (a .first) (unmark (inverse-marks k)), weigh-⊕ w (a .after) (unmark (inverse-marks f)))))
+          rw (e, q) (simp (
+            unmark-⊞,
+            unmark-taken-out,
+            brought-⊞,
+            taken-out-brings,
+            unmark-insert-all-marked,
+            unmark-labels-taken-out,
+            unmark-labels-undone,
+            labels-taken-out-bring,
+            labels-undone-bring,
+            weigh-childless,
+            weigh-insert-labels,
+            weigh-labels-++,
+          )
+          (omega (
+            arith,
+            kept-and-removed w as′,
+            replacing-weighs w as′ (h .1),
+            among-weighs w (r .kind) (a .attributes) (h .0 .attributes),
+            kept-brings-nothing w a e,
+            weigh-⊕ w (a .first) (unmark (inverse-marks k)),
+            weigh-⊕ w (a .after) (unmark (inverse-marks f)),
+          )))
       go false (Some c) e q hk hf =
           let u : left-on-kept a ≡ a = rw e at own in
           let first : weigh w (cond (is-some (a .content)) nil (a .first)) ≡ weigh w (a .first) = ap (λ x. weigh w (x .first)) u in
@@ -93,7 +116,26 @@ module _ (w : ℕ → ℕ) where
           let into : weigh w (a .into) ≡ 0 = ap (weigh w) (g .0 .1) in
           let last : weigh w (a .last) ≡ 0 = ap (weigh w) (g .0 .2) in
           let ks : brought w (cleared k) ≡ brought w k = ap (brought w) (rw (e, q) at below) in
-          rw (e, q) (simp (unmark-⊞, unmark-taken-out, brought-⊞, taken-out-brings, unmark-insert-all-marked, unmark-labels-taken-out, unmark-labels-undone,
-              labels-taken-out-bring, labels-undone-bring, weigh-childless, weigh-insert-labels, weigh-labels-++)
-            (omega (arith, kept-and-removed w as′, replacing-weighs w as′ (h .1), among-weighs w (r .kind) (a .attributes) (h .0 .attributes), kept-brings-nothing w a e,
-              cleared-bring w k, weigh-⊕ w (a .after) (unmark (inverse-marks f)))))
+          rw (e, q) (simp (
+            unmark-⊞,
+            unmark-taken-out,
+            brought-⊞,
+            taken-out-brings,
+            unmark-insert-all-marked,
+            unmark-labels-taken-out,
+            unmark-labels-undone,
+            labels-taken-out-bring,
+            labels-undone-bring,
+            weigh-childless,
+            weigh-insert-labels,
+            weigh-labels-++,
+          )
+          (omega (
+            arith,
+            kept-and-removed w as′,
+            replacing-weighs w as′ (h .1),
+            among-weighs w (r .kind) (a .attributes) (h .0 .attributes),
+            kept-brings-nothing w a e,
+            cleared-bring w k,
+            weigh-⊕ w (a .after) (unmark (inverse-marks f)),
+          )))

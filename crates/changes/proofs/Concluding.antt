@@ -127,7 +127,7 @@ module _ (room : ℕ) (d : Forest) (l : List Change) (w : WellFormed d) (s : Sui
   pub reduced-suits : Suits room d (reduced d l)
   reduced-suits =
       subst (λ (x : Forest). Suits room x (reduced d l)) unmark-m
-        (rw list-m (marks-suit room m m-sound m-fits m-named m-root (λ t. rw unmark-m (m-once t)) (own-reduced m m-single m-reduced) (rw unmark-m (rw list-m at fits-room))))
+      (rw list-m (marks-suit room m m-sound m-fits m-named m-root (λ t. rw unmark-m (m-once t)) (own-reduced m m-single m-reduced) (rw unmark-m (rw list-m at fits-room))))
 
   -- the changed document
   inv : MarkedForest
@@ -162,7 +162,8 @@ module _ (room : ℕ) (d : Forest) (l : List Change) (w : WellFormed d) (s : Sui
   changed-well-formed = record {
     root = rw after-m at (root-after m (rw unmark-m (w .root)) m-root);
     sound = changed-sound;
-    distinct = changed-once }
+    distinct = changed-once;
+  }
 
   -- nodes of the changed document and of the inverse list
   balance : weigh each (unmark inv) + (brought each inv + weigh each (removed-run m)) ≡ weigh each (unmark m) + brought each m
@@ -176,8 +177,19 @@ module _ (room : ℕ) (d : Forest) (l : List Change) (w : WellFormed d) (s : Sui
   pub nodes-balance : size (apply l d) + size-nodes (inverse d l) ≡ size d + size-nodes (reduced d l)
   nodes-balance =
       rw (list-m, list-inv)
-        (omega (arith, size-weigh (apply l d), size-weigh d, size-nodes-weigh (changes-in-order m), size-nodes-weigh (changes-in-order inv),
-          weigh-in-order each m, weigh-in-order each inv, ap (weigh each) unmark-inv, ap (weigh each) unmark-m, balance, ap (weigh each) lost))
+      (omega (
+        arith,
+        size-weigh (apply l d),
+        size-weigh d,
+        size-nodes-weigh (changes-in-order m),
+        size-nodes-weigh (changes-in-order inv),
+        weigh-in-order each m,
+        weigh-in-order each inv,
+        ap (weigh each) unmark-inv,
+        ap (weigh each) unmark-m,
+        balance,
+        ap (weigh each) lost,
+      ))
 
   pub changed-fits-room : size (apply l d) ≤ room
   changed-fits-room = omega (arith, nodes-balance, fits-room)
@@ -205,7 +217,7 @@ module _ (room : ℕ) (d : Forest) (l : List Change) (w : WellFormed d) (s : Sui
   pub inverse-suits : Suits room (apply l d) (inverse d l)
   inverse-suits =
       subst (λ (x : Forest). Suits room x (inverse d l)) unmark-inv
-        (rw list-inv (marks-suit room inv (rw unmark-inv changed-sound) inv-fits inv-named inv-root inv-once (own-reduced inv inv-single inv-reduced) fits))
+      (rw list-inv (marks-suit room inv (rw unmark-inv changed-sound) inv-fits inv-named inv-root inv-once (own-reduced inv inv-single inv-reduced) fits))
     where
       fits : size (unmark inv) + size-nodes (changes-in-order inv) ≤ room
       fits = let u : size (apply l d) + size-nodes (inverse d l) ≤ room = omega (arith, nodes-balance, fits-room) in rw unmark-inv (rw list-inv at u)

@@ -26,7 +26,7 @@ count-insert-label t x [] = refl
 count-insert-label t x (y ∷ l) = go (ltb (x .id) (y .id)) refl (count-insert-label t x l)
   where
     go : (b : Bool) → ltb (x .id) (y .id) ≡ b → count-labels t (insert-label x l) ≡ one (eqb (x .id) t) + count-labels t l
-      → count-labels t (insert-label x (y ∷ l)) ≡ one (eqb (x .id) t) + count-labels t (y ∷ l)
+        → count-labels t (insert-label x (y ∷ l)) ≡ one (eqb (x .id) t) + count-labels t (y ∷ l)
     go true e h = rw e
     go false e h = rw (e, h) (omega arith)
 
@@ -55,7 +55,6 @@ count-first t c [] = omega arith
 count-first t c (o ∷ l) = go (same-code (o .code) c) refl (count-first t c l)
   where
     go : (b : Bool) → same-code (o .code) c ≡ b → count t (or-else (nodes-given (first-of c l)) nil) ≤ count-nodes t l
-      → count t (or-else (nodes-given (first-of c (o ∷ l))) nil) ≤ count-nodes t (o ∷ l)
+        → count t (or-else (nodes-given (first-of c (o ∷ l))) nil) ≤ count-nodes t (o ∷ l)
     go true e h = rw e (omega arith)
     go false e h = rw e (omega arith)
-

@@ -79,13 +79,16 @@ module _ (d : Forest) (l : List Change) (s : ℕ) where
     where
       rest : List Change
       rest = left-behind d l (o ∷ e) r
+
       left : List Change
       left = here (same-code (o .code) Delete || has-change Delete s e) (changes-on s r)
+
       by-all : ℕ → Bool
       by-all t = overridden-from-above l t d
-        || by-target (has-change Delete t l) (has-change ReplaceNode t l) (has-change ReplaceContent t l) (has-change Delete t e) (o .code)
+          || by-target (has-change Delete t l) (has-change ReplaceNode t l) (has-change ReplaceContent t l) (has-change Delete t e) (o .code)
+
       go : (b : Bool) → eqb (o .target) s ≡ b → changes-on s rest ≡ here (has-change Delete s (o ∷ e)) (changes-on s r)
-        → changes-on s (left-behind d l e (o ∷ r)) ≡ here (has-change Delete s e) (changes-on s (o ∷ r))
+          → changes-on s (left-behind d l e (o ∷ r)) ≡ here (has-change Delete s e) (changes-on s (o ∷ r))
       go false q h = rw q (on-other s (overridden d l e o) o rest q ∙ h ∙ rw q)
       go true q h = rw q (on-same s (overridden d l e o) o rest q
           ∙ ap (λ z. cond (overridden d l e o) z (o ∷ z)) (h ∙ ap (λ z. here z (changes-on s r)) (rw q (is-first (same-code (o .code) Delete) o (first-of Delete (changes-on s e)))))
@@ -120,11 +123,11 @@ module _ (del rep con : Bool) where
   first-skip c false o x q = rw q
 
   same-target-code : (c : Code) (seen : Bool) (o : Change) → same-code (o .code) c ≡ true → same-code c Delete ≡ false
-    → by-target del rep con seen (o .code) ≡ by-target del rep con false c
+      → by-target del rep con seen (o .code) ≡ by-target del rep con false c
   same-target-code c seen o q e = ap (λ t. by-target del rep con seen t) (same-code-true (o .code) c q) ∙ unless-deletion c seen false e
 
   joined-left : (c : Code) (seen : Bool) (x : List Change) → same-code c Delete ≡ false
-    → joined-nodes c (left-here false del rep con seen x) ≡ cond (by-target del rep con false c) nil (joined-nodes c x)
+      → joined-nodes c (left-here false del rep con seen x) ≡ cond (by-target del rep con false c) nil (joined-nodes c x)
   joined-left c seen [] e = go (by-target del rep con false c)
     where
       go : (b : Bool) → _≡_ {A = Forest} nil (cond b nil nil)
@@ -134,8 +137,9 @@ module _ (del rep con : Bool) where
     where
       rest : List Change
       rest = left-here false del rep con (same-code (o .code) Delete || seen) x
+
       go : (b v : Bool) → same-code (o .code) c ≡ b → by-target del rep con false c ≡ v → joined-nodes c rest ≡ cond (by-target del rep con false c) nil (joined-nodes c x)
-        → joined-nodes c (cond (by-target del rep con seen (o .code)) rest (o ∷ rest)) ≡ cond (by-target del rep con false c) nil (joined-nodes c (o ∷ x))
+          → joined-nodes c (cond (by-target del rep con seen (o .code)) rest (o ∷ rest)) ≡ cond (by-target del rep con false c) nil (joined-nodes c (o ∷ x))
       go false v q w h = rw q (joined-skip c (by-target del rep con seen (o .code)) o rest q ∙ h)
       go true true q w h =
           ap (λ b. joined-nodes c (cond b rest (o ∷ rest))) (same-target-code c seen o q e ∙ w)
@@ -143,7 +147,7 @@ module _ (del rep con : Bool) where
       go true false q w h = ap (λ b. joined-nodes c (cond b rest (o ∷ rest))) (same-target-code c seen o q e ∙ w) ∙ rw (q, h) (rw w)
 
   first-left : (c : Code) (seen : Bool) (x : List Change) → same-code c Delete ≡ false
-    → first-of c (left-here false del rep con seen x) ≡ cond (by-target del rep con false c) None (first-of c x)
+      → first-of c (left-here false del rep con seen x) ≡ cond (by-target del rep con false c) None (first-of c x)
   first-left c seen [] e = go (by-target del rep con false c)
     where
       go : (b : Bool) → _≡_ {A = Option Change} None (cond b None None)
@@ -153,8 +157,9 @@ module _ (del rep con : Bool) where
     where
       rest : List Change
       rest = left-here false del rep con (same-code (o .code) Delete || seen) x
+
       go : (b v : Bool) → same-code (o .code) c ≡ b → by-target del rep con false c ≡ v → first-of c rest ≡ cond (by-target del rep con false c) None (first-of c x)
-        → first-of c (cond (by-target del rep con seen (o .code)) rest (o ∷ rest)) ≡ cond (by-target del rep con false c) None (first-of c (o ∷ x))
+          → first-of c (cond (by-target del rep con seen (o .code)) rest (o ∷ rest)) ≡ cond (by-target del rep con false c) None (first-of c (o ∷ x))
       go false v q w h = rw q (first-skip c (by-target del rep con seen (o .code)) o rest q ∙ h)
       go true true q w h =
           ap (λ b. first-of c (cond b rest (o ∷ rest))) (same-target-code c seen o q e ∙ w)
@@ -167,14 +172,17 @@ module _ (del rep con : Bool) where
     where
       rest : List Change
       rest = left-here false del rep con (same-code (o .code) Delete || seen) x
+
       or-t : (u : Bool) → (u || true) ≡ true
       or-t true = refl
       or-t false = refl
+
       own : same-code (o .code) Delete ≡ true → by-target del rep con seen (o .code) ≡ (rep || seen)
       own q = ap (λ t. by-target del rep con seen t) (same-code-true (o .code) Delete q)
+
       go : (b v : Bool) → same-code (o .code) Delete ≡ b → (rep || seen) ≡ v
-        → is-some (first-of Delete rest) ≡ (not (rep || (same-code (o .code) Delete || seen)) && is-some (first-of Delete x))
-        → is-some (first-of Delete (cond (by-target del rep con seen (o .code)) rest (o ∷ rest))) ≡ (not (rep || seen) && is-some (first-of Delete (o ∷ x)))
+          → is-some (first-of Delete rest) ≡ (not (rep || (same-code (o .code) Delete || seen)) && is-some (first-of Delete x))
+          → is-some (first-of Delete (cond (by-target del rep con seen (o .code)) rest (o ∷ rest))) ≡ (not (rep || seen) && is-some (first-of Delete (o ∷ x)))
       go false v q w h = ap is-some (first-skip Delete (by-target del rep con seen (o .code)) o rest q) ∙ h ∙ rw q
       go true true q w h = ap (λ b. is-some (first-of Delete (cond b rest (o ∷ rest)))) (own q ∙ w) ∙ h ∙ rw (q, or-t rep, w)
       go true false q w h = ap (λ b. is-some (first-of Delete (cond b rest (o ∷ rest)))) (own q ∙ w) ∙ rw (q, w)
@@ -187,15 +195,20 @@ node-changes-left x = same ∙ go (first-of Delete x) (first-of ReplaceNode x) (
   where
     y : List Change
     y = left-here false (is-some (first-of Delete x)) (is-some (first-of ReplaceNode x)) (is-some (first-of ReplaceContent x)) false x
+
     a : Bool
     a = is-some (first-of Delete x)
+
     b : Bool
     b = is-some (first-of ReplaceNode x)
+
     c : Bool
     c = is-some (first-of ReplaceContent x)
+
     z : NodeChanges
     z = record {
-      before = joined-nodes InsertBefore x; after = joined-nodes InsertAfter x;
+      before = joined-nodes InsertBefore x;
+      after = joined-nodes InsertAfter x;
       first = cond (by-target a b c false InsertFirst) nil (joined-nodes InsertFirst x);
       into = cond (by-target a b c false InsertInto) nil (joined-nodes InsertInto x);
       last = cond (by-target a b c false InsertLast) nil (joined-nodes InsertLast x);
@@ -204,18 +217,31 @@ node-changes-left x = same ∙ go (first-of Delete x) (first-of ReplaceNode x) (
       replaced = unless-empty (nodes-given (first-of ReplaceNode x));
       revalued = value-given (cond (by-target a b c false ReplaceValue) None (first-of ReplaceValue x));
       content = nodes-given (cond (by-target a b c false ReplaceContent) None (first-of ReplaceContent x));
-      renamed = name-given (cond (by-target a b c false Rename) None (first-of Rename x)) }
+      renamed = name-given (cond (by-target a b c false Rename) None (first-of Rename x));
+    }
+
     same : deleted-if-by-nothing (node-changes y) ≡ z
     same =
-        rw (joined-left a b c InsertBefore false x refl, joined-left a b c InsertAfter false x refl, joined-left a b c InsertFirst false x refl,
-            joined-left a b c InsertInto false x refl, joined-left a b c InsertLast false x refl, joined-left a b c InsertAttributes false x refl,
-            deletion-left a b c false x, first-left a b c ReplaceNode false x refl, first-left a b c ReplaceValue false x refl,
-            first-left a b c ReplaceContent false x refl, first-left a b c Rename false x refl)
+        rw (
+          joined-left a b c InsertBefore false x refl,
+          joined-left a b c InsertAfter false x refl,
+          joined-left a b c InsertFirst false x refl,
+          joined-left a b c InsertInto false x refl,
+          joined-left a b c InsertLast false x refl,
+          joined-left a b c InsertAttributes false x refl,
+          deletion-left a b c false x,
+          first-left a b c ReplaceNode false x refl,
+          first-left a b c ReplaceValue false x refl,
+          first-left a b c ReplaceContent false x refl,
+          first-left a b c Rename false x refl,
+        )
+
     by-none : (f : Forest) → by-nothing (Some f) ≡ not (is-some (unless-empty (Some f)))
     by-none nil = refl
     by-none (node r as′ k f) = refl
+
     go : (o-deleted o-replaced o-content : Option Change) → first-of Delete x ≡ o-deleted → first-of ReplaceNode x ≡ o-replaced → first-of ReplaceContent x ≡ o-content
-      → z ≡ left-on-node (node-changes x)
+        → z ≡ left-on-node (node-changes x)
     go (Some p) (Some o) o-content e-deleted e-replaced e-content = rw (e-deleted, e-replaced) (rw (by-none (o .nodes)))
     go (Some p) None o-content e-deleted e-replaced e-content = rw (e-deleted, e-replaced)
     go None (Some o) o-content e-deleted e-replaced e-content = rw (e-deleted, e-replaced) (rw (by-none (o .nodes)))
@@ -236,27 +262,39 @@ module _ (l : List Change) (r : Label) (as′ : List Label) (k f : Forest) (d : 
       let v = d (r .id) in go (omega arith) (omega arith) (not-above-none l (r .id) k (omega arith)) (not-above-none l (r .id) f (omega arith))
     where
       go : count-labels (r .id) as′ ≡ 0 → count (r .id) k ≡ 0 → overridden-from-above l (r .id) k ≡ false → overridden-from-above l (r .id) f ≡ false
-        → overridden-from-above l (r .id) (node r as′ k f) ≡ false
+          → overridden-from-above l (r .id) (node r as′ k f) ≡ false
       go a b u v = rw (a, b, u, v, and-f (has-change Delete (r .id) l || has-change ReplaceNode (r .id) l), and-f (has-change ReplaceContent (r .id) l))
 
   above-attributes : (t : ℕ) → 1 ≤ count-labels t as′ → overridden-from-above l t (node r as′ k f) ≡ (has-change Delete (r .id) l || has-change ReplaceNode (r .id) l)
   above-attributes t p = let v = d t in go (lt-ltb 0 (count-labels t as′) p) (omega arith) (not-above-none l t k (omega arith)) (not-above-none l t f (omega arith))
     where
       go : ltb 0 (count-labels t as′) ≡ true → count t k ≡ 0 → overridden-from-above l t k ≡ false → overridden-from-above l t f ≡ false
-        → overridden-from-above l t (node r as′ k f) ≡ (has-change Delete (r .id) l || has-change ReplaceNode (r .id) l)
-      go a b u v = rw (a, b, u, v, and-t (has-change Delete (r .id) l || has-change ReplaceNode (r .id) l),
-          and-f (has-change ReplaceContent (r .id) l)) (or-f (has-change Delete (r .id) l || has-change ReplaceNode (r .id) l))
+          → overridden-from-above l t (node r as′ k f) ≡ (has-change Delete (r .id) l || has-change ReplaceNode (r .id) l)
+      go a b u v = rw (
+        a,
+        b,
+        u,
+        v,
+        and-t (has-change Delete (r .id) l || has-change ReplaceNode (r .id) l),
+        and-f (has-change ReplaceContent (r .id) l),
+      ) (or-f (has-change Delete (r .id) l || has-change ReplaceNode (r .id) l))
 
   above-children : (t : ℕ) → 1 ≤ count t k
-    → overridden-from-above l t (node r as′ k f)
-    ≡ ((has-change Delete (r .id) l || has-change ReplaceNode (r .id) l) || (has-change ReplaceContent (r .id) l || overridden-from-above l t k))
+      → overridden-from-above l t (node r as′ k f)
+      ≡ ((has-change Delete (r .id) l || has-change ReplaceNode (r .id) l) || (has-change ReplaceContent (r .id) l || overridden-from-above l t k))
   above-children t p = let v = d t in go (lt-ltb 0 (count t k) p) (omega arith) (not-above-none l t f (omega arith))
     where
       go : ltb 0 (count t k) ≡ true → count-labels t as′ ≡ 0 → overridden-from-above l t f ≡ false
-        → overridden-from-above l t (node r as′ k f)
-        ≡ ((has-change Delete (r .id) l || has-change ReplaceNode (r .id) l) || (has-change ReplaceContent (r .id) l || overridden-from-above l t k))
-      go a b v = rw (b, a, v, and-t (has-change Delete (r .id) l || has-change ReplaceNode (r .id) l), and-t (has-change ReplaceContent (r .id) l),
-          or-f (overridden-from-above l t k))
+          → overridden-from-above l t (node r as′ k f)
+          ≡ ((has-change Delete (r .id) l || has-change ReplaceNode (r .id) l) || (has-change ReplaceContent (r .id) l || overridden-from-above l t k))
+      go a b v = rw (
+        b,
+        a,
+        v,
+        and-t (has-change Delete (r .id) l || has-change ReplaceNode (r .id) l),
+        and-t (has-change ReplaceContent (r .id) l),
+        or-f (overridden-from-above l t k),
+      )
 
   above-behind : (t : ℕ) → 1 ≤ count t f → overridden-from-above l t (node r as′ k f) ≡ overridden-from-above l t f
   above-behind t p = let v = d t in go (omega arith) (omega arith) (not-above-none l t k (omega arith))
@@ -288,8 +326,8 @@ node-left d l t b e = ap (λ x. deleted-if-by-nothing (node-changes x)) (on-left
     ∙ ap (λ c. left-here c (has-change Delete t l) (has-change ReplaceNode t l) (has-change ReplaceContent t l) false (changes-on t l)) e) ∙ go b
   where
     go : (c : Bool)
-      → deleted-if-by-nothing (node-changes (left-here c (has-change Delete t l) (has-change ReplaceNode t l) (has-change ReplaceContent t l) false (changes-on t l)))
-      ≡ cond c no-changes (left-on-node (node-changes (changes-on t l)))
+        → deleted-if-by-nothing (node-changes (left-here c (has-change Delete t l) (has-change ReplaceNode t l) (has-change ReplaceContent t l) false (changes-on t l)))
+        ≡ cond c no-changes (left-on-node (node-changes (changes-on t l)))
     go true =
         ap (λ x. deleted-if-by-nothing (node-changes x)) (left-none (has-change Delete t l) (has-change ReplaceNode t l) (has-change ReplaceContent t l) false (changes-on t l))
     go false = node-changes-left (changes-on t l)
@@ -308,30 +346,30 @@ all-left d l nil true c h = refl
 all-left d l nil false c h = refl
 all-left d l (node r as′ k f) b c h =
     go b refl
-      (node-left d l (r .id) b own)
-      (labels-left d l (b || (has-change Delete (r .id) l || has-change ReplaceNode (r .id) l)) as′ (λ t p. h t (omega arith)
-          ∙ ap (λ x. b || x) (above-attributes l r as′ k f c t p)))
-      (all-left d l k (b || ((has-change Delete (r .id) l || has-change ReplaceNode (r .id) l) || has-change ReplaceContent (r .id) l)) (λ t. omega (arith, c t))
-        (λ t p. h t (omega arith)
-            ∙ ap (λ x. b || x) (above-children l r as′ k f c t p
-            ∙ or-or (has-change Delete (r .id) l || has-change ReplaceNode (r .id) l) (has-change ReplaceContent (r .id) l) (overridden-from-above l t k))
-            ∙ or-or b ((has-change Delete (r .id) l || has-change ReplaceNode (r .id) l) || has-change ReplaceContent (r .id) l) (overridden-from-above l t k)))
-      (all-left d l f b (λ t. omega (arith, c t)) (λ t p. h t (omega arith) ∙ ap (λ x. b || x) (above-behind l r as′ k f c t p)))
+    (node-left d l (r .id) b own)
+    (labels-left d l (b || (has-change Delete (r .id) l || has-change ReplaceNode (r .id) l)) as′ (λ t p. h t (omega arith)
+    ∙ ap (λ x. b || x) (above-attributes l r as′ k f c t p)))
+    (all-left d l k (b || ((has-change Delete (r .id) l || has-change ReplaceNode (r .id) l) || has-change ReplaceContent (r .id) l)) (λ t. omega (arith, c t))
+    (λ t p. h t (omega arith)
+    ∙ ap (λ x. b || x) (above-children l r as′ k f c t p
+    ∙ or-or (has-change Delete (r .id) l || has-change ReplaceNode (r .id) l) (has-change ReplaceContent (r .id) l) (overridden-from-above l t k))
+    ∙ or-or b ((has-change Delete (r .id) l || has-change ReplaceNode (r .id) l) || has-change ReplaceContent (r .id) l) (overridden-from-above l t k)))
+    (all-left d l f b (λ t. omega (arith, c t)) (λ t p. h t (omega arith) ∙ ap (λ x. b || x) (above-behind l r as′ k f c t p)))
   where
     own : overridden-from-above l (r .id) d ≡ b
     own = let u = one-refl (r .id) in h (r .id) (omega arith) ∙ ap (λ x. b || x) (not-above-itself l r as′ k f c) ∙ or-f b
+
     go : (v : Bool) → b ≡ v
-      → deleted-if-by-nothing (node-changes (changes-on (r .id) (not-overridden d l))) ≡ cond b no-changes (left-on-node (node-changes (changes-on (r .id) l)))
-      → labels-by-nothing (mark-labels (not-overridden d l) as′)
+        → deleted-if-by-nothing (node-changes (changes-on (r .id) (not-overridden d l))) ≡ cond b no-changes (left-on-node (node-changes (changes-on (r .id) l)))
+        → labels-by-nothing (mark-labels (not-overridden d l) as′)
         ≡ cond (b || (has-change Delete (r .id) l || has-change ReplaceNode (r .id) l)) (cleared-labels (mark-labels l as′)) (left-on-labels (mark-labels l as′))
-      → empty-replacements-deleted (mark (not-overridden d l) k)
+        → empty-replacements-deleted (mark (not-overridden d l) k)
         ≡ cond (b || ((has-change Delete (r .id) l || has-change ReplaceNode (r .id) l) || has-change ReplaceContent (r .id) l)) (cleared (mark l k)) (without-overridden (mark l k))
-      → empty-replacements-deleted (mark (not-overridden d l) f) ≡ cond b (cleared (mark l f)) (without-overridden (mark l f))
-      → empty-replacements-deleted (mark (not-overridden d l) (node r as′ k f)) ≡ cond b (cleared (mark l (node r as′ k f))) (without-overridden (mark l (node r as′ k f)))
+        → empty-replacements-deleted (mark (not-overridden d l) f) ≡ cond b (cleared (mark l f)) (without-overridden (mark l f))
+        → empty-replacements-deleted (mark (not-overridden d l) (node r as′ k f)) ≡ cond b (cleared (mark l (node r as′ k f))) (without-overridden (mark l (node r as′ k f)))
     go true e ha hr hk hf = rw (ha, hr, hk, hf) (rw e)
     go false e ha hr hk hf = rw (ha, hr, hk, hf) (rw (e, removed-has l (r .id), is-nodes (first-of ReplaceContent (changes-on (r .id) l))))
 
 -- to drop the overridden changes from the list is to drop them from the marks
 pub dropped-same : (d : Forest) (l : List Change) → ((t : ℕ) → count t d ≤ 1) → empty-replacements-deleted (mark (not-overridden d l) d) ≡ without-overridden (mark l d)
 dropped-same d l c = all-left d l d false c (λ t p. refl)
-

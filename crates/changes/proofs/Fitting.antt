@@ -254,7 +254,7 @@ text-sound (node r as′ k nil) s e = (s .0, holds (r .kind) e (s .1), s .2, s .
 text-sound (node r as′ k (node s′ bs k′ f)) s e = absurd (true≢false (sym e))
 
 content-if : (μ : Kind) (o : Option Change) → Given (λ (x : Change). (is-element μ ≡ true) × Sound (x .nodes) × (one-text-or-none (x .nodes) ≡ true)) o
-  → Content μ (nodes-given o)
+    → Content μ (nodes-given o)
 content-if Element None q = tt
 content-if Element (Some x) q = (q .1, q .2)
 content-if Attribute None q = refl
@@ -279,7 +279,7 @@ renamed-if Text (Some x) q = absurd (true≢false (sym (q .0)))
 module _ (κ : Kind) (l : List Change) (h : Each (ChangeFits κ) l) where
   -- what the tests say of a change with a known code
   told : (o : Change) (c : Code) → ChangeFits κ o → o .code ≡ c
-    → (nodes-suit c (o .nodes) ≡ true) × (kind-suits c κ (o .nodes) ≡ true) × (fields-suit-code c (o .name) (o .value) ≡ true)
+      → (nodes-suit c (o .nodes) ≡ true) × (kind-suits c κ (o .nodes) ≡ true) × (fields-suit-code c (o .name) (o .value) ≡ true)
   told o c f e =
       (rw e at (f .nodes-fit), rw e at (f .kind-fits), rw e at (and-parts (ltb 0 (o .target)) (fields-suit-code (o .code) (o .name) (o .value)) (f .formed) .1))
 
@@ -287,12 +287,12 @@ module _ (κ : Kind) (l : List Change) (h : Each (ChangeFits κ) l) where
   children o f e = sound-roots (o .nodes) (f .sound) (and-parts (not (is-empty (o .nodes))) (no-attribute-roots (o .nodes)) e .1)
 
   beside-code : (c : Code) → ((o : Change) → ChangeFits κ o → o .code ≡ c → (not (is-attribute κ) ≡ true)
-    × ((not (is-empty (o .nodes)) && no-attribute-roots (o .nodes)) ≡ true))
-    → Beside κ (joined-nodes c l)
+      × ((not (is-empty (o .nodes)) && no-attribute-roots (o .nodes)) ≡ true))
+      → Beside κ (joined-nodes c l)
   beside-code c q = joined-fits (ChangeFits κ) (Beside κ) (beside-nil κ) (beside-⊕ κ) c (λ o f e. let u = q o f e in beside-if κ (o .nodes) (u .0) (children o f (u .1))) l h
 
   inside-code : (c : Code) → ((o : Change) → ChangeFits κ o → o .code ≡ c → (is-element κ ≡ true) × ((not (is-empty (o .nodes)) && no-attribute-roots (o .nodes)) ≡ true))
-    → Inside κ (joined-nodes c l)
+      → Inside κ (joined-nodes c l)
   inside-code c q = joined-fits (ChangeFits κ) (Inside κ) (inside-nil κ) (inside-⊕ κ) c (λ o f e. let u = q o f e in inside-if κ (o .nodes) (u .0) (children o f (u .1))) l h
 
   pub fitting-node : Fitting κ (node-changes l)
@@ -303,14 +303,15 @@ module _ (κ : Kind) (l : List Change) (h : Each (ChangeFits κ) l) where
     into = inside-code InsertInto (λ o f e. let u = told o InsertInto f e in (u .1, u .0));
     last = inside-code InsertLast (λ o f e. let u = told o InsertLast f e in (u .1, u .0));
     attributes = joined-fits (ChangeFits κ) (Among κ) (among-nil κ) (among-⊕ κ) InsertAttributes
-      (λ o f e. let u = told o InsertAttributes f e in
+        (λ o f e. let u = told o InsertAttributes f e in
         among-if κ (o .nodes) (u .1) (attribute-row-roots (o .nodes) (f .sound) (and-parts (not (is-empty (o .nodes))) (attribute-roots (o .nodes)) (u .0) .1))) l h;
     replaced = nodes-fit-given (Instead κ) (first-of ReplaceNode l)
-      (first-fits (ChangeFits κ) (λ x. Instead κ (x .nodes)) ReplaceNode (λ o f e. instead-if κ (o .nodes) (f .sound) (told o ReplaceNode f e .1)) l h);
+        (first-fits (ChangeFits κ) (λ x. Instead κ (x .nodes)) ReplaceNode (λ o f e. instead-if κ (o .nodes) (f .sound) (told o ReplaceNode f e .1)) l h);
     revalued = revalued-if κ (first-of ReplaceValue l) (first-fits (ChangeFits κ) (λ x. not (is-element κ) ≡ true) ReplaceValue (λ o f e. told o ReplaceValue f e .1) l h);
     content =
         content-if κ (first-of ReplaceContent l) (first-fits (ChangeFits κ) (λ x. (is-element κ ≡ true) × Sound (x .nodes) × (one-text-or-none (x .nodes)
         ≡ true)) ReplaceContent
-      (λ o f e. let u = told o ReplaceContent f e in (u .1, text-sound (o .nodes) (f .sound) (u .0), u .0)) l h);
+        (λ o f e. let u = told o ReplaceContent f e in (u .1, text-sound (o .nodes) (f .sound) (u .0), u .0)) l h);
     renamed = renamed-if κ (first-of Rename l) (first-fits (ChangeFits κ) (λ x. (not (is-text κ) ≡ true) × (ltb 0 (x .name) ≡ true)) Rename
-      (λ o f e. let u = told o Rename f e in (u .1, and-parts (ltb 0 (o .name)) (eqb (o .value) 0) (u .2) .0)) l h) }
+        (λ o f e. let u = told o Rename f e in (u .1, and-parts (ltb 0 (o .name)) (eqb (o .value) 0) (u .2) .0)) l h);
+  }

@@ -74,7 +74,7 @@ unmark-insert-marked x [] = refl
 unmark-insert-marked x (y ∷ l) = go (ltb (x .label .id) (y .label .id)) refl (unmark-insert-marked x l)
   where
     go : (b : Bool) → ltb (x .label .id) (y .label .id) ≡ b → unmark-labels (insert-marked x l) ≡ insert-label (x .label) (unmark-labels l)
-      → unmark-labels (insert-marked x (y ∷ l)) ≡ insert-label (x .label) (unmark-labels (y ∷ l))
+        → unmark-labels (insert-marked x (y ∷ l)) ≡ insert-label (x .label) (unmark-labels (y ∷ l))
     go true e h = rw e
     go false e h = rw (e, h)
 
@@ -96,10 +96,18 @@ inverse-unmark no-marks n = refl
 inverse-unmark (marked r a as′ k f) n = go (removed a) (a .content) refl refl (inverse-unmark k (n .1)) (inverse-unmark f (n .2))
   where
     go : (b : Bool) (o : Option Forest) → removed a ≡ b → a .content ≡ o → unmark (inverse-marks k) ≡ all-stages-at-once k → unmark (inverse-marks f) ≡ all-stages-at-once f
-      → unmark (inverse-marks (marked r a as′ k f)) ≡ all-stages-at-once (marked r a as′ k f)
+        → unmark (inverse-marks (marked r a as′ k f)) ≡ all-stages-at-once (marked r a as′ k f)
     go true o e q hk hf = rw (e, n .0 .0) (simp (unmark-⊞, unmark-taken-out, hf))
-    go false None e q hk hf = rw (e, q, n .0 .0, n .0 .1, n .0 .2) (simp (unmark-⊞, unmark-taken-out, hf, hk, unmark-insert-all-marked, unmark-labels-taken-out,
-        unmark-labels-undone, ⊕-nil))
+    go false None e q hk hf = rw (e, q, n .0 .0, n .0 .1, n .0 .2) (simp (
+      unmark-⊞,
+      unmark-taken-out,
+      hf,
+      hk,
+      unmark-insert-all-marked,
+      unmark-labels-taken-out,
+      unmark-labels-undone,
+      ⊕-nil,
+    ))
     go false (Some c) e q hk hf = rw (e, q, n .0 .0) (simp (unmark-⊞, unmark-taken-out, hf, unmark-insert-all-marked, unmark-labels-taken-out, unmark-labels-undone))
 
 -- attributes come back
@@ -108,7 +116,7 @@ kept-insert-marked r [] = refl
 kept-insert-marked r (y ∷ l) = go (ltb (r .id) (y .label .id)) refl (kept-insert-marked r l)
   where
     go : (b : Bool) → ltb (r .id) (y .label .id) ≡ b → kept-labels (insert-marked (record { label = r; changes = deletion }) l) ≡ kept-labels l
-      → kept-labels (insert-marked (record { label = r; changes = deletion }) (y ∷ l)) ≡ kept-labels (y ∷ l)
+        → kept-labels (insert-marked (record { label = r; changes = deletion }) (y ∷ l)) ≡ kept-labels (y ∷ l)
     go true e h = rw e
     go false e h = rw (e, h)
 
@@ -117,7 +125,7 @@ replacing-insert-marked r [] = refl
 replacing-insert-marked r (y ∷ l) = go (ltb (r .id) (y .label .id)) refl (replacing-insert-marked r l)
   where
     go : (b : Bool) → ltb (r .id) (y .label .id) ≡ b → replacing-labels (insert-marked (record { label = r; changes = deletion }) l) ≡ replacing-labels l
-      → replacing-labels (insert-marked (record { label = r; changes = deletion }) (y ∷ l)) ≡ replacing-labels (y ∷ l)
+        → replacing-labels (insert-marked (record { label = r; changes = deletion }) (y ∷ l)) ≡ replacing-labels (y ∷ l)
     go true e h = rw e
     go false e h = rw (e, h)
 
@@ -176,15 +184,15 @@ labels-back n [] h = refl
 labels-back n (m ∷ l) h = go (removed (m .changes)) refl (labels-back (m .label .id) l (h .1))
   where
     go : (b : Bool) → removed (m .changes) ≡ b → insert-labels (removed-labels l) (staying-labels l) ≡ unmark-labels l
-      → insert-labels (removed-labels (m ∷ l)) (staying-labels (m ∷ l)) ≡ unmark-labels (m ∷ l)
+        → insert-labels (removed-labels (m ∷ l)) (staying-labels (m ∷ l)) ≡ unmark-labels (m ∷ l)
     go true e k = rw (e, k, insert-front (m .label) (unmark-labels l) (h .1))
     go false e k = rw (e, insert-behind (m .label) (removed-labels l) (staying-labels l) (above-removed (m .label .id) l (h .1)), k)
 
 -- the attributes of a node that stays, after and back
 pub attributes-back : (l : List MarkedLabel) (x : List Label) → Above 0 (unmark-labels l)
     → insert-labels (replacing-labels (insert-all-marked (labels-taken-out x) (labels-undone l)) ++ root-labels (childless (removed-labels l)))
-        (kept-labels (insert-all-marked (labels-taken-out x) (labels-undone l)))
-      ≡ unmark-labels l
+    (kept-labels (insert-all-marked (labels-taken-out x) (labels-undone l)))
+    ≡ unmark-labels l
 attributes-back l x h = simp (replacing-of-taken, replacing-of-undone, kept-of-taken, kept-of-undone, root-labels-childless) (labels-back 0 l h)
 
 -- the inverse marks give the first document back
@@ -193,13 +201,23 @@ inverse-leads-back no-marks t = refl
 inverse-leads-back (marked r a as′ k f) t = go (removed a) (a .content) refl refl (inverse-leads-back k (t .1)) (inverse-leads-back f (t .2))
   where
     go : (b : Bool) (o : Option Forest) → removed a ≡ b → a .content ≡ o → removed-run k ⊕ all-stages-at-once (inverse-marks k) ≡ unmark k
-      → removed-run f ⊕ all-stages-at-once (inverse-marks f) ≡ unmark f
-      → removed-run (marked r a as′ k f) ⊕ all-stages-at-once (inverse-marks (marked r a as′ k f)) ≡ unmark (marked r a as′ k f)
+        → removed-run f ⊕ all-stages-at-once (inverse-marks f) ≡ unmark f
+        → removed-run (marked r a as′ k f) ⊕ all-stages-at-once (inverse-marks (marked r a as′ k f)) ≡ unmark (marked r a as′ k f)
     go true o e q hk hf = rw e (simp (taken-out-before, hf))
-    go false None e q hk hf = rw (e, q, old-back (a .renamed) (r .name), old-back (a .revalued) (r .value),
-        attributes-back as′ (replacing-labels as′ ++ root-labels (a .attributes)) (t .0)) (simp (taken-out-before, hf, hk, ⊕-nil))
-    go false (Some c) e q hk hf = rw (e, q, old-back (a .renamed) (r .name), old-back (a .revalued) (r .value),
-        attributes-back as′ (replacing-labels as′ ++ root-labels (a .attributes)) (t .0)) (simp (taken-out-before, taken-out-all, hf, ⊕-nil))
+    go false None e q hk hf = rw (
+      e,
+      q,
+      old-back (a .renamed) (r .name),
+      old-back (a .revalued) (r .value),
+      attributes-back as′ (replacing-labels as′ ++ root-labels (a .attributes)) (t .0),
+    ) (simp (taken-out-before, hf, hk, ⊕-nil))
+    go false (Some c) e q hk hf = rw (
+      e,
+      q,
+      old-back (a .renamed) (r .name),
+      old-back (a .revalued) (r .value),
+      attributes-back as′ (replacing-labels as′ ++ root-labels (a .attributes)) (t .0),
+    ) (simp (taken-out-before, taken-out-all, hf, ⊕-nil))
 
 -- gathered marks are of that form
 pub gathered-all : (m : MarkedForest) (g : Forest) → Gathered (gathered-by-gap m g)

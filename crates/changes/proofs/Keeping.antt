@@ -21,8 +21,17 @@ use Rattle.changes.proofs.Fitting.{Fit, Fitting, beside-nil, inside-nil, among
 
 pub no-changes-fit : (κ : Kind) → Fitting κ no-changes
 no-changes-fit κ = record {
-  before = beside-nil κ; after = beside-nil κ; first = inside-nil κ; into = inside-nil κ; last = inside-nil κ; attributes = among-nil κ;
-  replaced = tt; revalued = revalued-none κ; content = content-none κ; renamed = renamed-none κ }
+  before = beside-nil κ;
+  after = beside-nil κ;
+  first = inside-nil κ;
+  into = inside-nil κ;
+  last = inside-nil κ;
+  attributes = among-nil κ;
+  replaced = tt;
+  revalued = revalued-none κ;
+  content = content-none κ;
+  renamed = renamed-none κ;
+}
 
 pub beside-sound : (κ : Kind) (f : Forest) → Beside κ f → Sound f
 beside-sound Element f h = h
@@ -54,12 +63,29 @@ left-fits κ a h = go (removed a)
   where
     go : (b : Bool) → Fitting κ (cond b (left-on-removed a) (left-on-kept a))
     go true = record {
-      before = h .before; after = h .after; first = inside-nil κ; into = inside-nil κ; last = inside-nil κ; attributes = among-nil κ;
-      replaced = unless-empty-given (Instead κ) (a .replaced) (h .replaced); revalued = revalued-none κ; content = content-none κ; renamed = renamed-none κ }
+      before = h .before;
+      after = h .after;
+      first = inside-nil κ;
+      into = inside-nil κ;
+      last = inside-nil κ;
+      attributes = among-nil κ;
+      replaced = unless-empty-given (Instead κ) (a .replaced) (h .replaced);
+      revalued = revalued-none κ;
+      content = content-none κ;
+      renamed = renamed-none κ;
+    }
     go false = record {
-      before = h .before; after = h .after; first = inside-unless κ (is-some (a .content)) (a .first) (h .first);
-      into = inside-unless κ (is-some (a .content)) (a .into) (h .into); last = inside-unless κ (is-some (a .content)) (a .last) (h .last);
-      attributes = h .attributes; replaced = tt; revalued = h .revalued; content = h .content; renamed = h .renamed }
+      before = h .before;
+      after = h .after;
+      first = inside-unless κ (is-some (a .content)) (a .first) (h .first);
+      into = inside-unless κ (is-some (a .content)) (a .into) (h .into);
+      last = inside-unless κ (is-some (a .content)) (a .last) (h .last);
+      attributes = h .attributes;
+      replaced = tt;
+      revalued = h .revalued;
+      content = h .content;
+      renamed = h .renamed;
+    }
 
 cleared-labels-fit : (l : List MarkedLabel) → FitLabels (cleared-labels l)
 cleared-labels-fit [] = tt
@@ -81,6 +107,7 @@ without-overridden-fit (marked r a as′ k f) h =
     labels : (b : Bool) → FitLabels (cond b (cleared-labels as′) (left-on-labels as′))
     labels true = cleared-labels-fit as′
     labels false = left-labels-fit as′ (h .1)
+
     below : (b : Bool) → Fit (without-overridden k) → Fit (cond b (cleared k) (without-overridden k))
     below true q = cleared-fit k
     below false q = q
@@ -105,16 +132,25 @@ before-first-inside Text as′ k g h q s = rw (unmark-nil k (h .1)) s
 
 pub gathered-fit : (m : MarkedForest) (g : Forest) → Sound (unmark m) → Fit m → Sound g → Fit (gathered-by-gap m g)
 gathered-fit no-marks g s h q = tt
-gathered-fit (marked r a as′ k f) g s h q =
-    (record {
-      before = beside-nil (r .kind);
-      after = beside-⊕ (r .kind) (a .after) (before-first f g) (h .0 .after)
+gathered-fit (marked r a as′ k f) g s h q = (
+  record {
+    before = beside-nil (r .kind);
+    after = beside-⊕ (r .kind) (a .after) (before-first f g) (h .0 .after)
         (sound-beside (r .kind) (unmark-labels as′) (unmark k) (before-first f g) (s .1) (before-first-sound f g (h .3) q));
-      first = inside-⊕ (r .kind) (a .first) (a .into ⊕ before-first k (a .last)) (h .0 .first)
+    first = inside-⊕ (r .kind) (a .first) (a .into ⊕ before-first k (a .last)) (h .0 .first)
         (inside-⊕ (r .kind) (a .into) (before-first k (a .last)) (h .0 .into) (before-first-inside (r .kind) (unmark-labels as′) k (a .last) (s .1) (h .2) (h .0 .last)));
-      into = inside-nil (r .kind); last = inside-nil (r .kind); attributes = h .0 .attributes; replaced = h .0 .replaced; revalued = h .0 .revalued;
-      content = h .0 .content; renamed = h .0 .renamed },
-      h .1, gathered-fit k (a .last) (s .3) (h .2) (inside-sound (r .kind) (a .last) (h .0 .last)), gathered-fit f g (s .4) (h .3) q)
+    into = inside-nil (r .kind);
+    last = inside-nil (r .kind);
+    attributes = h .0 .attributes;
+    replaced = h .0 .replaced;
+    revalued = h .0 .revalued;
+    content = h .0 .content;
+    renamed = h .0 .renamed;
+  },
+  h .1,
+  gathered-fit k (a .last) (s .3) (h .2) (inside-sound (r .kind) (a .last) (h .0 .last)),
+  gathered-fit f g (s .4) (h .3) q,
+)
 
 pub reduced-fit : (m : MarkedForest) → Sound (unmark m) → Fit m → Fit (reduced-marks m)
 reduced-fit m s h = gathered-fit (without-overridden m) nil (rw (without-overridden-unmark m) s) (without-overridden-fit m h) tt
@@ -153,13 +189,31 @@ valued-back Text o v q = tt
 undone-fits : (κ : Kind) (r : Label) (a : NodeChanges) (g h at : Forest) → r .kind ≡ κ → Formed r → Fitting κ a → Beside κ g → Inside κ h → Among κ at
     → Fitting κ (undone r a g h at)
 undone-fits κ r a g h at e w q pg ph pa = record {
-  before = beside-nil κ; after = pg; first = ph; into = inside-nil κ; last = inside-nil κ; attributes = pa;
-  replaced = tt; revalued = valued-back κ (a .revalued) (r .value) (q .revalued); content = content-none κ; renamed = named-back κ r (a .renamed) e w (q .renamed) }
+  before = beside-nil κ;
+  after = pg;
+  first = ph;
+  into = inside-nil κ;
+  last = inside-nil κ;
+  attributes = pa;
+  replaced = tt;
+  revalued = valued-back κ (a .revalued) (r .value) (q .revalued);
+  content = content-none κ;
+  renamed = named-back κ r (a .renamed) e w (q .renamed);
+}
 
 pub deletion-fits : (κ : Kind) → Fitting κ deletion
 deletion-fits κ = record {
-  before = beside-nil κ; after = beside-nil κ; first = inside-nil κ; into = inside-nil κ; last = inside-nil κ; attributes = among-nil κ;
-  replaced = tt; revalued = revalued-none κ; content = content-none κ; renamed = renamed-none κ }
+  before = beside-nil κ;
+  after = beside-nil κ;
+  first = inside-nil κ;
+  into = inside-nil κ;
+  last = inside-nil κ;
+  attributes = among-nil κ;
+  replaced = tt;
+  revalued = revalued-none κ;
+  content = content-none κ;
+  renamed = renamed-none κ;
+}
 
 unchanged-labels-fit : (l : List Label) → FitLabels (unchanged-labels l)
 unchanged-labels-fit [] = tt
@@ -195,7 +249,7 @@ labels-undone-fit [] s h = tt
 labels-undone-fit (m ∷ l) s h = go (removed (m .changes)) (labels-undone-fit l (s .2) (h .1))
   where
     go : (b : Bool) → FitLabels (labels-undone l)
-      → FitLabels (cond b (labels-undone l) (record { label = relabelled (m .label) (m .changes); changes = undone (m .label) (m .changes) nil nil nil } ∷ labels-undone l))
+        → FitLabels (cond b (labels-undone l) (record { label = relabelled (m .label) (m .changes); changes = undone (m .label) (m .changes) nil nil nil } ∷ labels-undone l))
     go true q = q
     go false q = (undone-fits Attribute (m .label) (m .changes) nil nil nil (s .0) (s .1) (h .0) refl refl refl, q)
 
@@ -219,17 +273,20 @@ inverse-fit (marked r a as′ k f) s h = go (removed a) (inverse-fit k (s .3) (h
     below : (b : Bool) → Fit (inverse-marks k) → Fit (cond b (taken-out (or-else (a .content) nil)) (taken-out (a .first) ⊞ inverse-marks k))
     below true q = taken-out-alone-fit (or-else (a .content) nil)
     below false q = taken-out-fit (a .first) (inverse-marks k) q
+
     go : (b : Bool) → Fit (inverse-marks k) → Fit (inverse-marks f)
-      → Fit (cond b (taken-out (or-else (a .replaced) nil) ⊞ (taken-out (a .after) ⊞ inverse-marks f))
+        → Fit (cond b (taken-out (or-else (a .replaced) nil) ⊞ (taken-out (a .after) ⊞ inverse-marks f))
         (marked (relabelled r a)
-          (undone r a (removed-run f) (cond (is-some (a .content)) (unmark k) (removed-run k)) (childless (removed-labels as′)))
-          (insert-all-marked (labels-taken-out (replacing-labels as′ ++ root-labels (a .attributes))) (labels-undone as′))
-          (cond (is-some (a .content)) (taken-out (or-else (a .content) nil)) (taken-out (a .first) ⊞ inverse-marks k))
-          (taken-out (a .after) ⊞ inverse-marks f)))
+        (undone r a (removed-run f) (cond (is-some (a .content)) (unmark k) (removed-run k)) (childless (removed-labels as′)))
+        (insert-all-marked (labels-taken-out (replacing-labels as′ ++ root-labels (a .attributes))) (labels-undone as′))
+        (cond (is-some (a .content)) (taken-out (or-else (a .content) nil)) (taken-out (a .first) ⊞ inverse-marks k))
+        (taken-out (a .after) ⊞ inverse-marks f)))
     go true qk qf = taken-out-fit (or-else (a .replaced) nil) _ (taken-out-fit (a .after) (inverse-marks f) qf)
-    go false qk qf =
-        (undone-fits (r .kind) r a (removed-run f) (cond (is-some (a .content)) (unmark k) (removed-run k)) (childless (removed-labels as′)) refl (s .0) (h .0)
-            (sound-beside (r .kind) (unmark-labels as′) (unmark k) (removed-run f) (s .1) (run-sound f (s .4)))
-            (back-inside (r .kind) (unmark-labels as′) k (a .content) (s .1) (s .3) (h .0 .content)) (back-among (r .kind) as′ (unmark k) (s .1) (s .2 .0)),
-          labels-taken-fit (replacing-labels as′ ++ root-labels (a .attributes)) (labels-undone as′) (labels-undone-fit as′ (s .2 .0) (h .1)),
-          below (is-some (a .content)) qk, taken-out-fit (a .after) (inverse-marks f) qf)
+    go false qk qf = (
+      undone-fits (r .kind) r a (removed-run f) (cond (is-some (a .content)) (unmark k) (removed-run k)) (childless (removed-labels as′)) refl (s .0) (h .0)
+          (sound-beside (r .kind) (unmark-labels as′) (unmark k) (removed-run f) (s .1) (run-sound f (s .4)))
+          (back-inside (r .kind) (unmark-labels as′) k (a .content) (s .1) (s .3) (h .0 .content)) (back-among (r .kind) as′ (unmark k) (s .1) (s .2 .0)),
+      labels-taken-fit (replacing-labels as′ ++ root-labels (a .attributes)) (labels-undone as′) (labels-undone-fit as′ (s .2 .0) (h .1)),
+      below (is-some (a .content)) qk,
+      taken-out-fit (a .after) (inverse-marks f) qf,
+    )

@@ -110,25 +110,32 @@ level-after l (node r as′ k f) n h = go (tidy-on (r .id) l n) (level-after l k
   where
     here : List Change
     here = changes-on (r .id) l
+
     a : NodeChanges
     a = node-changes here
+
     come : List Label
     come = replacing-labels (mark-labels l as′) ++ root-labels (a .attributes)
+
     below : Forest
     below = all-stages-at-once (mark l k)
+
     middle : Bool → Forest
     middle b = cond b (or-else (a .replaced) nil) (node (relabelled r a) (insert-labels come (kept-labels (mark-labels l as′))) (children-after a below) nil)
+
     body : (b : Bool) → TidyChanges here → Level below → Level (middle b)
     body true t hk = level-first ReplaceNode here t
-    body false t hk =
-        (rising-insert-labels come (kept-labels (mark-labels l as′)) (rising-kept (mark-labels l as′) (rw (unmark-mark-labels l as′) (h .0))),
-          level-children a below (level-first ReplaceContent here t)
-            (level-⊕ (a .first) _ (level-joined InsertFirst here t) (level-⊕ (a .into) _ (level-joined InsertInto here t) (level-⊕ below (a .last) hk (level-joined InsertLast here t)))),
-          tt)
+    body false t hk = (
+      rising-insert-labels come (kept-labels (mark-labels l as′)) (rising-kept (mark-labels l as′) (rw (unmark-mark-labels l as′) (h .0))),
+      level-children a below (level-first ReplaceContent here t)
+          (level-⊕ (a .first) _ (level-joined InsertFirst here t) (level-⊕ (a .into) _ (level-joined InsertInto here t) (level-⊕ below (a .last) hk (level-joined InsertLast here t)))),
+      tt,
+    )
+
     go : TidyChanges here → Level below → Level (all-stages-at-once (mark l f)) → Level (all-stages-at-once (mark l (node r as′ k f)))
     go t hk hf =
         level-⊕ (a .before) _ (level-joined InsertBefore here t)
-          (level-⊕ (middle (removed a)) _ (body (removed a) t hk) (level-⊕ (a .after) _ (level-joined InsertAfter here t) hf))
+        (level-⊕ (middle (removed a)) _ (body (removed a) t hk) (level-⊕ (a .after) _ (level-joined InsertAfter here t) hf))
 
 module _ (d : Forest) (l : List Change) (s : Ready d l) where
   unfoldable pub reduced-of : MarkedForest
@@ -163,15 +170,25 @@ module _ (d : Forest) (l : List Change) (s : Ready d l) where
 
   -- the changed document and what the inverse list brings weigh as much as the document and what the reduced list brings
   pub reduced-balances : (w : ℕ → ℕ) → weigh w (unmark (inverse-marks reduced-of)) + (brought w (inverse-marks reduced-of) + weigh w (removed-run reduced-of))
-    ≡ weigh w (unmark reduced-of) + brought w reduced-of
+      ≡ weigh w (unmark reduced-of) + brought w reduced-of
   unfolding reduced-of
   reduced-balances w = inverse-balances w (reduced-marks (mark l d)) (settled (mark l d) nil) (gathered-all (without-overridden (mark l d)) nil) (s .fits)
 
   pub once-inverse : (t : ℕ) → count t (unmark (inverse-marks reduced-of)) + count-nodes t (changes-in-order (inverse-marks reduced-of)) ≤ 1
   once-inverse t =
-      omega (arith, s .distinct t, reduced-brought (is-it t), count-nodes-weigh t l, count-weigh t d, ap (weigh (is-it t)) unmark-reduced,
-        reduced-balances (is-it t), ap (weigh (is-it t)) none-lost, count-weigh t (unmark (inverse-marks reduced-of)), count-nodes-weigh t (changes-in-order (inverse-marks reduced-of)),
-        weigh-in-order (is-it t) (inverse-marks reduced-of))
+      omega (
+        arith,
+        s .distinct t,
+        reduced-brought (is-it t),
+        count-nodes-weigh t l,
+        count-weigh t d,
+        ap (weigh (is-it t)) unmark-reduced,
+        reduced-balances (is-it t),
+        ap (weigh (is-it t)) none-lost,
+        count-weigh t (unmark (inverse-marks reduced-of)),
+        count-nodes-weigh t (changes-in-order (inverse-marks reduced-of)),
+        weigh-in-order (is-it t) (inverse-marks reduced-of),
+      )
 
   fresh-reduced : Fresh (changes-in-order reduced-of)
   fresh-reduced t p = off t reduced-of (rw unmark-reduced (omega (arith, once-reduced t)))
@@ -211,8 +228,8 @@ module _ (d : Forest) (l : List Change) (s : Ready d l) where
   unfolding inverse reduced-of
   inverse-back =
       rw (← unmark-inverse)
-        (stages (changes-in-order (inverse-marks reduced-of)) fresh-inverse (unmark (inverse-marks reduced-of)) (rw unmark-inverse level-changed)
-          ∙ ap all-stages-at-once (marks-back (inverse-marks reduced-of) single-inverse) ∙ back)
+      (stages (changes-in-order (inverse-marks reduced-of)) fresh-inverse (unmark (inverse-marks reduced-of)) (rw unmark-inverse level-changed)
+      ∙ ap all-stages-at-once (marks-back (inverse-marks reduced-of) single-inverse) ∙ back)
     where
       back : all-stages-at-once (inverse-marks reduced-of) ≡ d
       back = (rw none-lost at (inverse-leads-back reduced-of (rw unmark-reduced (s .tidy)))) ∙ unmark-reduced

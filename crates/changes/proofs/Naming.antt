@@ -76,6 +76,7 @@ not-clash k (j ∷ ks) had h b =
     count-seen i [] e = refl
     count-seen i (x ∷ js) e =
         let w = or-parts (eqb (x .0) (i .0) && eqb (x .1) (i .1)) (seen i js) e in rw (w .0) (omega (arith, count-seen i js (w .1)))
+
     once : (c : Bool) → same-key j k ≡ c → seen j had ≡ false → count-before k (j ∷ had) ≤ 1
     once true e s =
         let q = and-parts (eqb (j .0) (k .0)) (eqb (j .1) (k .1)) e in
@@ -90,16 +91,19 @@ names-passed d l e had n [] h b k = omega (arith, b k)
 names-passed d l e had n (o ∷ r) h b k = go (overridden d l e o) refl (names-passed d l (o ∷ e) had (n + 1) r) (names-passed d l (o ∷ e) (names-of d o ++ had) (n + 1) r)
   where
     go : (c : Bool) → overridden d l e o ≡ c
-      → (first-clash d l (o ∷ e) had (n + 1) r ≡ None → ((k : ℕ × ℕ) → count-before k had ≤ 1) → (k : ℕ × ℕ)
+        → (first-clash d l (o ∷ e) had (n + 1) r ≡ None → ((k : ℕ × ℕ) → count-before k had ≤ 1) → (k : ℕ × ℕ)
         → count-before k had + total (gives d k) (left-behind d l (o ∷ e) r) ≤ 1)
-      → (first-clash d l (o ∷ e) (names-of d o ++ had) (n + 1) r ≡ None → ((k : ℕ × ℕ) → count-before k (names-of d o ++ had) ≤ 1)
+        → (first-clash d l (o ∷ e) (names-of d o ++ had) (n + 1) r ≡ None → ((k : ℕ × ℕ) → count-before k (names-of d o ++ had) ≤ 1)
         → (k : ℕ × ℕ) → count-before k (names-of d o ++ had) + total (gives d k) (left-behind d l (o ∷ e) r) ≤ 1)
-      → count-before k had + total (gives d k) (left-behind d l e (o ∷ r)) ≤ 1
+        → count-before k had + total (gives d k) (left-behind d l e (o ∷ r)) ≤ 1
     go true q skip keep = rw q (skip (rw q at h) b k)
     go false q skip keep =
         let u = passed-not (clash (names-of d o) had) (first-clash d l (o ∷ e) (names-of d o ++ had) (n + 1) r) n (rw q at h) in
-        rw q (omega (arith, count-before-++ k (names-of d o) had,
-          keep (u .1) (λ j. omega (arith, count-before-++ j (names-of d o) had, not-clash j (names-of d o) had (u .0) (b j))) k))
+        rw q (omega (
+          arith,
+          count-before-++ k (names-of d o) had,
+          keep (u .1) (λ j. omega (arith, count-before-++ j (names-of d o) had, not-clash j (names-of d o) had (u .0) (b j))) k,
+        ))
 
 no-clash : (ks had : List (ℕ × ℕ)) → ((k : ℕ × ℕ) → count-before k had + count-before k ks ≤ 1) → clash ks had ≡ false
 no-clash [] had h = refl
@@ -111,12 +115,13 @@ pub passed-names : (d : Forest) (l e : List Change) (had : List (ℕ × ℕ)) (n
 passed-names d l e had n [] h = refl
 passed-names d l e had n (o ∷ r) h =
     go (overridden d l e o) (passed-names d l (o ∷ e) had (n + 1) r (λ k. omega (arith, h k)))
-      (passed-names d l (o ∷ e) (names-of d o ++ had) (n + 1) r (λ k. omega (arith, h k, count-before-++ k (names-of d o) had)))
+    (passed-names d l (o ∷ e) (names-of d o ++ had) (n + 1) r (λ k. omega (arith, h k, count-before-++ k (names-of d o) had)))
   where
     free : clash (names-of d o) had ≡ false
     free = no-clash (names-of d o) had (λ k. omega (arith, h k))
+
     go : (c : Bool) → first-clash d l (o ∷ e) had (n + 1) r ≡ None → first-clash d l (o ∷ e) (names-of d o ++ had) (n + 1) r ≡ None
-      → cond c (first-clash d l (o ∷ e) had (n + 1) r) (cond (clash (names-of d o) had) (Some n) (first-clash d l (o ∷ e) (names-of d o ++ had) (n + 1) r)) ≡ None
+        → cond c (first-clash d l (o ∷ e) had (n + 1) r) (cond (clash (names-of d o) had) (Some n) (first-clash d l (o ∷ e) (names-of d o ++ had) (n + 1) r)) ≡ None
     go true p q = p
     go false p q = rw free q
 
@@ -131,30 +136,33 @@ module _ (d : Forest) (p n t : ℕ) (x : Found) (e : find t d ≡ Some x) (own :
   attributes-given (o ∷ l) h = go (same-code (o .code) InsertAttributes) refl (attributes-given l (h .1))
     where
       go : (b : Bool) → same-code (o .code) InsertAttributes ≡ b → count-names n (root-labels (joined-nodes InsertAttributes l)) ≤ total (gives d (p, n)) l
-        → count-names n (root-labels (joined-nodes InsertAttributes (o ∷ l))) ≤ total (gives d (p, n)) (o ∷ l)
+          → count-names n (root-labels (joined-nodes InsertAttributes (o ∷ l))) ≤ total (gives d (p, n)) (o ∷ l)
       go true q k =
           let u = given-by o InsertAttributes (h .0) (same-code-true (o .code) InsertAttributes q) in
           let v : count-before (p, n) (names-on (x .element) (root-labels (o .nodes))) ≡ count-names n (root-labels (o .nodes)) =
-              rw own (count-names-on p n (root-labels (o .nodes))) in
-          rw (q, root-labels-⊕ (o .nodes) (joined-nodes InsertAttributes l),
-              count-names-++ n (root-labels (o .nodes)) (root-labels (joined-nodes InsertAttributes l))) (omega arith)
+          rw own (count-names-on p n (root-labels (o .nodes))) in
+          rw (
+            q,
+            root-labels-⊕ (o .nodes) (joined-nodes InsertAttributes l),
+            count-names-++ n (root-labels (o .nodes)) (root-labels (joined-nodes InsertAttributes l)),
+          ) (omega arith)
       go false q k = rw q (omega arith)
 
   module _ (κ : x .kind ≡ Attribute) where
     label-given : (l : List Change) → Each (λ o. o .target ≡ t) l
-      → count-names n (root-labels (or-else (nodes-given (first-of ReplaceNode l)) nil)) + name-is n (name-given (first-of Rename l)) ≤ total (gives d (p, n)) l
+        → count-names n (root-labels (or-else (nodes-given (first-of ReplaceNode l)) nil)) + name-is n (name-given (first-of Rename l)) ≤ total (gives d (p, n)) l
     label-given [] h = omega arith
     label-given (o ∷ l) h = go (same-code (o .code) ReplaceNode) (same-code (o .code) Rename) refl refl (label-given l (h .1))
       where
         go : (b c : Bool) → same-code (o .code) ReplaceNode ≡ b → same-code (o .code) Rename ≡ c
-          → count-names n (root-labels (or-else (nodes-given (first-of ReplaceNode l)) nil)) + name-is n (name-given (first-of Rename l)) ≤ total (gives d (p, n)) l
-          → count-names n (root-labels (or-else (nodes-given (first-of ReplaceNode (o ∷ l))) nil)) + name-is n (name-given (first-of Rename (o ∷ l)))
+            → count-names n (root-labels (or-else (nodes-given (first-of ReplaceNode l)) nil)) + name-is n (name-given (first-of Rename l)) ≤ total (gives d (p, n)) l
+            → count-names n (root-labels (or-else (nodes-given (first-of ReplaceNode (o ∷ l))) nil)) + name-is n (name-given (first-of Rename (o ∷ l)))
             ≤ total (gives d (p, n)) (o ∷ l)
         go true true q w k = absurd (true≢false (rw (same-code-true (o .code) ReplaceNode q) at (sym w)))
         go true false q w k =
             let u = given-by o ReplaceNode (h .0) (same-code-true (o .code) ReplaceNode q) in
             let v : count-before (p, n) (names-if-attribute (x .kind) (names-on (x .element) (root-labels (o .nodes)))) ≡ count-names n (root-labels (o .nodes))
-                  = rw (κ, own) (count-names-on p n (root-labels (o .nodes))) in
+            = rw (κ, own) (count-names-on p n (root-labels (o .nodes))) in
             rw (q, w) (omega arith)
         go false true q w k =
             let u = given-by o Rename (h .0) (same-code-true (o .code) Rename w) in
@@ -172,31 +180,41 @@ on-targets t (o ∷ l) = go (eqb (o .target) t) refl (on-targets t l)
 
 module _ (d : Forest) (l : List Change) where
   labels-given : (p n : ℕ) (rs : List Label) → Attributes rs → ((t : ℕ) → count-labels t rs ≤ 1) → ((t : ℕ) → 1 ≤ count-labels t rs → find t d ≡ find-label p t rs)
-    → names-by-labels n (mark-labels l rs) ≤ spread-labels (gives d (p, n)) l rs
+      → names-by-labels n (mark-labels l rs) ≤ spread-labels (gives d (p, n)) l rs
   labels-given p n [] a c g = omega arith
   labels-given p n (r ∷ rs) a c g =
-      omega (arith,
+      omega (
+        arith,
         label-given d p n (r .id) (record { kind = r .kind; element = p }) (g (r .id) (omega (arith, one-refl (r .id))) ∙ find-label-itself p r rs) refl (a .0)
-          (changes-on (r .id) l) (on-targets (r .id) l),
-        labels-given p n rs (a .2) (λ t. omega (arith, c t)) (λ t q. g t (omega arith) ∙ find-label-behind p t r rs (c t) q))
+            (changes-on (r .id) l) (on-targets (r .id) l),
+        labels-given p n rs (a .2) (λ t. omega (arith, c t)) (λ t q. g t (omega arith) ∙ find-label-behind p t r rs (c t) q),
+      )
 
   pub marks-named : (f : Forest) → Sound f → ((t : ℕ) → count t f ≤ 1) → ((t : ℕ) → 1 ≤ count t f → find t d ≡ find t f)
-    → ((k : ℕ × ℕ) → count-before k (names-in f) + spread (gives d k) l f ≤ 1) → Named (mark l f)
+      → ((k : ℕ × ℕ) → count-before k (names-in f) + spread (gives d k) l f ≤ 1) → Named (mark l f)
   marks-named nil s c g h = tt
-  marks-named (node r as′ k f) s c g h =
-      (here, marks-named k (s .3) (λ t. omega (arith, c t)) (λ t q. g t (omega arith) ∙ find-below r as′ k f t (c t) q) (λ j. omega (arith, h j, both j)),
-        marks-named f (s .4) (λ t. omega (arith, c t)) (λ t q. g t (omega arith) ∙ find-behind r as′ k f t (c t) q) (λ j. omega (arith, h j, both j)))
+  marks-named (node r as′ k f) s c g h = (
+    here,
+    marks-named k (s .3) (λ t. omega (arith, c t)) (λ t q. g t (omega arith) ∙ find-below r as′ k f t (c t) q) (λ j. omega (arith, h j, both j)),
+    marks-named f (s .4) (λ t. omega (arith, c t)) (λ t q. g t (omega arith) ∙ find-behind r as′ k f t (c t) q) (λ j. omega (arith, h j, both j)),
+  )
     where
       both : (j : ℕ × ℕ) → count-before j (names-in (node r as′ k f)) ≡ count-before j (names-on (r .id) as′) + (count-before j (names-in k) + count-before j (names-in f))
       both j = omega (arith, count-before-++ j (names-on (r .id) as′) (names-in k ++ names-in f), count-before-++ j (names-in k) (names-in f))
+
       here : (n : ℕ)
-        → count-names n (unmark-labels (mark-labels l as′)) + (count-names n (root-labels (joined-nodes InsertAttributes (changes-on (r .id) l))) + names-by-labels n (mark-labels l as′)) ≤ 1
+          → count-names n (unmark-labels (mark-labels l as′)) + (count-names n (root-labels (joined-nodes InsertAttributes (changes-on (r .id) l))) + names-by-labels n (mark-labels l as′)) ≤ 1
       here n =
           rw (unmark-mark-labels l as′)
-            (omega (arith, h (r .id, n), both (r .id, n), count-names-on (r .id) n as′,
-              attributes-given d (r .id) n (r .id) (record { kind = r .kind; element = r .id }) (g (r .id) (omega (arith, one-refl (r .id))) ∙ find-itself r as′ k f) refl
+          (omega (
+            arith,
+            h (r .id, n),
+            both (r .id, n),
+            count-names-on (r .id) n as′,
+            attributes-given d (r .id) n (r .id) (record { kind = r .kind; element = r .id }) (g (r .id) (omega (arith, one-refl (r .id))) ∙ find-itself r as′ k f) refl
                 (changes-on (r .id) l) (on-targets (r .id) l),
-              labels-given (r .id) n as′ (s .2 .0) (λ t. omega (arith, c t)) (λ t q. g t (omega arith) ∙ find-attribute r as′ k f t (c t) q)))
+            labels-given (r .id) n as′ (s .2 .0) (λ t. omega (arith, c t)) (λ t q. g t (omega arith) ∙ find-attribute r as′ k f t (c t) q),
+          ))
 
 -- an empty replacement gives no name
 unless-empty-roots : (o : Option Forest) → root-labels (or-else (unless-empty o) nil) ≡ root-labels (or-else o nil)
@@ -218,12 +236,19 @@ by-nothing-named (marked r a as′ k f) h = ((λ n. rw (by-nothing-unmark as′,
 sound-names : (k : ℕ × ℕ) (f : Forest) → Sound f → count-before k (names-in f) ≤ count (k .0) f
 sound-names k nil s = omega arith
 sound-names k (node r as′ l f) s =
-    omega (arith, count-before-++ k (names-on (r .id) as′) (names-in l ++ names-in f), count-before-++ k (names-in l) (names-in f), own (eqb (r .id) (k .0)) refl,
-      sound-names k l (s .3), sound-names k f (s .4))
+    omega (
+      arith,
+      count-before-++ k (names-on (r .id) as′) (names-in l ++ names-in f),
+      count-before-++ k (names-in l) (names-in f),
+      own (eqb (r .id) (k .0)) refl,
+      sound-names k l (s .3),
+      sound-names k f (s .4),
+    )
   where
     other : (ls : List Label) → eqb (r .id) (k .0) ≡ false → count-before k (names-on (r .id) ls) ≡ 0
     other [] e = refl
     other (x ∷ ls) e = rw (e, other ls e)
+
     own : (b : Bool) → eqb (r .id) (k .0) ≡ b → count-before k (names-on (r .id) as′) ≤ one (eqb (r .id) (k .0))
     own true e =
         let i = eqb-true (r .id) (k .0) e in
@@ -235,9 +260,12 @@ sound-names k (node r as′ l f) s =
 pub left-named : (d : Forest) (l : List Change) → WellFormed d → first-clash d l [] (names-in d) 0 l ≡ None → Named (without-overridden (mark l d))
 left-named d l w h =
     rw (dropped-same d l (w .distinct)) at
-      (by-nothing-named (mark (not-overridden d l) d) (marks-named d (not-overridden d l) d (w .sound) (w .distinct) (λ t q. refl)
-        (λ k. omega (arith, spread-all (gives d k) (not-overridden d l) d (w .distinct),
-          names-passed d l [] (names-in d) 0 l h (λ j. omega (arith, sound-names j d (w .sound), w .distinct (j .0))) k))))
+    (by-nothing-named (mark (not-overridden d l) d) (marks-named d (not-overridden d l) d (w .sound) (w .distinct) (λ t q. refl)
+    (λ k. omega (
+      arith,
+      spread-all (gives d k) (not-overridden d l) d (w .distinct),
+      names-passed d l [] (names-in d) 0 l h (λ j. omega (arith, sound-names j d (w .sound), w .distinct (j .0))) k,
+    ))))
 
 -- gathering moves no attribute
 pub gathered-named : (m : MarkedForest) (g : Forest) → Named m → Named (gathered-by-gap m g)

@@ -93,8 +93,8 @@ name-codes t (Some n) = (refl, omega arith, tt)
 by-code-codes : (t : ℕ) (a : NodeChanges) → Codes t 11 (changes-by-code t a)
 by-code-codes t a =
     insertion-codes t InsertBefore (a .before) _ (insertion-codes t InsertAfter (a .after) _ (insertion-codes t InsertFirst (a .first) _ (insertion-codes t InsertInto (a .into) _
-      (insertion-codes t InsertLast (a .last) _ (insertion-codes t InsertAttributes (a .attributes) _ (deletion-codes t (a .deleted) _ (replacement-codes t ReplaceNode (a .replaced) _
-        (value-codes t (a .revalued) _ (replacement-codes t ReplaceContent (a .content) _ (name-codes t (a .renamed)))))))))))
+    (insertion-codes t InsertLast (a .last) _ (insertion-codes t InsertAttributes (a .attributes) _ (deletion-codes t (a .deleted) _ (replacement-codes t ReplaceNode (a .replaced) _
+    (value-codes t (a .revalued) _ (replacement-codes t ReplaceContent (a .content) _ (name-codes t (a .renamed)))))))))))
 
 codes-by-all : (ρ : ℕ → ℕ) (t c : ℕ) (o : Change) (l : List Change) → o .target ≡ t → code-number (o .code) < c → Codes t c l → ByAll ρ o l
 codes-by-all ρ t c o [] e p h = tt
@@ -129,10 +129,11 @@ ordered-labels ρ n (m ∷ l) h =
     let c = by-code-codes (m .label .id) (m .changes) in
     let u = ordered-labels ρ (n + 1) l (h .1) in
     let e = n + 1 + size-labels (unmark-labels l) in
-    let r = codes-rank ρ (m .label .id) 11 n own (h .0) c in
-    (ordered-++ ρ n (n + 1) e own rest (codes-ordered ρ (m .label .id) 11 own c) r (u .0) (u .1),
+    let r = codes-rank ρ (m .label .id) 11 n own (h .0) c in (
+      ordered-++ ρ n (n + 1) e own rest (codes-ordered ρ (m .label .id) 11 own c) r (u .0) (u .1),
       ranks-++ ρ n (n + (1 + size-labels (unmark-labels l))) own rest (ranks-wider ρ n (n + 1) n (n + (1 + size-labels (unmark-labels l))) own (omega arith) (omega arith) r)
-        (ranks-wider ρ (n + 1) e n (n + (1 + size-labels (unmark-labels l))) rest (omega arith) (omega arith) (u .1)))
+          (ranks-wider ρ (n + 1) e n (n + (1 + size-labels (unmark-labels l))) rest (omega arith) (omega arith) (u .1)),
+    )
 
 pub ordered-marks : (ρ : ℕ → ℕ) (n : ℕ) (m : MarkedForest) → Ranked ρ n (unmark m) → Ordered ρ (changes-in-order m) × Ranks ρ n (n + size (unmark m)) (changes-in-order m)
 ordered-marks ρ n no-marks h = (tt, tt)
@@ -141,42 +142,56 @@ ordered-marks ρ n (marked r a as′ k f) h =
   where
     own : List Change
     own = changes-by-code (r .id) a
+
     ls : List Change
     ls = label-changes-in-order as′
+
     ks : List Change
     ks = changes-in-order k
+
     fs : List Change
     fs = changes-in-order f
+
     -- where the attributes, the children, what stands behind, and the row ends begin
     a1 : ℕ
     a1 = n + 1
+
     a2 : ℕ
     a2 = n + 1 + size-labels (unmark-labels as′)
+
     a3 : ℕ
     a3 = n + 1 + size-labels (unmark-labels as′) + size (unmark k)
+
     a4 : ℕ
     a4 = n + 1 + size-labels (unmark-labels as′) + size (unmark k) + size (unmark f)
+
     e : ℕ
     e = n + (1 + (size-labels (unmark-labels as′) + (size (unmark k) + size (unmark f))))
+
     c : Codes (r .id) 11 own
     c = by-code-codes (r .id) a
+
     r0 : Ranks ρ n a1 own
     r0 = codes-rank ρ (r .id) 11 n own (h .0) c
+
     ul : Ordered ρ ls × Ranks ρ a1 a2 ls
     ul = ordered-labels ρ a1 as′ (h .1)
+
     lw : Ranks ρ a1 a4 ls
     lw = ranks-wider ρ a1 a2 a1 a4 ls (omega arith) (omega arith) (ul .1)
+
     go : Ordered ρ ks × Ranks ρ a2 a3 ks → Ordered ρ fs × Ranks ρ a3 a4 fs
-      → Ordered ρ (own ++ (ls ++ (ks ++ fs))) × Ranks ρ n e (own ++ (ls ++ (ks ++ fs)))
+        → Ordered ρ (own ++ (ls ++ (ks ++ fs))) × Ranks ρ n e (own ++ (ls ++ (ks ++ fs)))
     go uk uf =
         let kw = ranks-wider ρ a2 a3 a2 a4 ks (omega arith) (omega arith) (uk .1) in
-        let fw = ranks-wider ρ a3 a4 a2 a4 fs (omega arith) (omega arith) (uf .1) in
-        (ordered-++ ρ n a1 a4 own _ (codes-ordered ρ (r .id) 11 own c) r0
-            (ordered-++ ρ a1 a2 a4 ls _ (ul .0) (ul .1) (ordered-++ ρ a2 a3 a4 ks fs (uk .0) (uk .1) (uf .0) (uf .1)) (ranks-++ ρ a2 a4 ks fs kw fw))
-            (ranks-++ ρ a1 a4 ls _ lw (ranks-++ ρ a1 a4 ks fs (ranks-wider ρ a2 a4 a1 a4 ks (omega arith) (omega arith) kw) (ranks-wider ρ a2 a4 a1 a4 fs (omega arith) (omega arith) fw))),
+        let fw = ranks-wider ρ a3 a4 a2 a4 fs (omega arith) (omega arith) (uf .1) in (
+          ordered-++ ρ n a1 a4 own _ (codes-ordered ρ (r .id) 11 own c) r0
+              (ordered-++ ρ a1 a2 a4 ls _ (ul .0) (ul .1) (ordered-++ ρ a2 a3 a4 ks fs (uk .0) (uk .1) (uf .0) (uf .1)) (ranks-++ ρ a2 a4 ks fs kw fw))
+              (ranks-++ ρ a1 a4 ls _ lw (ranks-++ ρ a1 a4 ks fs (ranks-wider ρ a2 a4 a1 a4 ks (omega arith) (omega arith) kw) (ranks-wider ρ a2 a4 a1 a4 fs (omega arith) (omega arith) fw))),
           ranks-++ ρ n e own _ (ranks-wider ρ n a1 n e own (omega arith) (omega arith) r0)
-            (ranks-++ ρ n e ls _ (ranks-wider ρ a1 a4 n e ls (omega arith) (omega arith) lw)
-              (ranks-++ ρ n e ks fs (ranks-wider ρ a2 a4 n e ks (omega arith) (omega arith) kw) (ranks-wider ρ a2 a4 n e fs (omega arith) (omega arith) fw))))
+              (ranks-++ ρ n e ls _ (ranks-wider ρ a1 a4 n e ls (omega arith) (omega arith) lw)
+              (ranks-++ ρ n e ks fs (ranks-wider ρ a2 a4 n e ks (omega arith) (omega arith) kw) (ranks-wider ρ a2 a4 n e fs (omega arith) (omega arith) fw))),
+        )
 
 -- THE PLACE in the listing is such a number
 rank-past : (t : ℕ) (xs ys : List Node) → count-rows t xs ≡ 0 → rank t (xs ++ ys) ≡ length xs + rank t ys
@@ -189,50 +204,66 @@ rank-here x xs = rw (eq-eqb (x .id) (x .id) refl)
 ranked-labels : (ρ : ℕ → ℕ) (p n : ℕ) (l : List Label) (before rest : List Node) → length before ≡ n → ((t : ℕ) → ρ t ≡ rank t (before ++ (attribute-rows p l ++ rest)))
     → ((t : ℕ) → count-rows t before + count-labels t l ≤ 1) → RankedLabels ρ n l
 ranked-labels ρ p n [] before rest e g c = tt
-ranked-labels ρ p n (r ∷ l) before rest e g c =
-    (g (r .id) ∙ rank-past (r .id) before _ (omega (arith, c (r .id), one-refl (r .id))) ∙ omega (arith, rank-here (row p r) (attribute-rows p l ++ rest)),
-      ranked-labels ρ p (n + 1) l (before ++ (row p r ∷ [])) rest (omega (arith, length-append before (row p r ∷ [])))
-        (λ t. g t ∙ ap (rank t) (sym (append-assoc before (row p r ∷ []) (attribute-rows p l ++ rest))))
-        (λ t. omega (arith, c t, count-rows-++ t before (row p r ∷ []))))
+ranked-labels ρ p n (r ∷ l) before rest e g c = (
+  g (r .id) ∙ rank-past (r .id) before _ (omega (arith, c (r .id), one-refl (r .id))) ∙ omega (arith, rank-here (row p r) (attribute-rows p l ++ rest)),
+  ranked-labels ρ p (n + 1) l (before ++ (row p r ∷ [])) rest (omega (arith, length-append before (row p r ∷ [])))
+      (λ t. g t ∙ ap (rank t) (sym (append-assoc before (row p r ∷ []) (attribute-rows p l ++ rest))))
+      (λ t. omega (arith, c t, count-rows-++ t before (row p r ∷ []))),
+)
 
 ranked-rows : (ρ : ℕ → ℕ) (p n : ℕ) (f : Forest) (before rest : List Node) → length before ≡ n → ((t : ℕ) → ρ t ≡ rank t (before ++ (rows p f ++ rest)))
     → ((t : ℕ) → count-rows t before + count t f ≤ 1) → Ranked ρ n f
 ranked-rows ρ p n nil before rest e g c = tt
-ranked-rows ρ p n (node r as′ k f) before rest e g c =
-    (g (r .id) ∙ rank-past (r .id) before _ (omega (arith, c (r .id), one-refl (r .id)))
-        ∙ omega (arith, rank-here (row p r) ((attribute-rows (r .id) as′ ++ (rows (r .id) k ++ rows p f)) ++ rest)),
-      ranked-labels ρ (r .id) (n + 1) as′ b1 ((rows (r .id) k ++ rows p f) ++ rest) l1 (λ t. g t ∙ ap (rank t) q1) (λ t. omega (arith, c t, c1 t)),
-      ranked-rows ρ (r .id) (n + 1 + size-labels as′) k b2 (rows p f ++ rest) l2 (λ t. g t ∙ ap (rank t) q2) (λ t. omega (arith, c t, c1 t, c2 t)),
-      ranked-rows ρ p (n + 1 + size-labels as′ + size k) f b3 rest l3 (λ t. g t ∙ ap (rank t) q3) (λ t. omega (arith, c t, c1 t, c2 t, c3 t)))
+ranked-rows ρ p n (node r as′ k f) before rest e g c = (
+  g (r .id) ∙ rank-past (r .id) before _ (omega (arith, c (r .id), one-refl (r .id)))
+      ∙ omega (arith, rank-here (row p r) ((attribute-rows (r .id) as′ ++ (rows (r .id) k ++ rows p f)) ++ rest)),
+  ranked-labels ρ (r .id) (n + 1) as′ b1 ((rows (r .id) k ++ rows p f) ++ rest) l1 (λ t. g t ∙ ap (rank t) q1) (λ t. omega (arith, c t, c1 t)),
+  ranked-rows ρ (r .id) (n + 1 + size-labels as′) k b2 (rows p f ++ rest) l2 (λ t. g t ∙ ap (rank t) q2) (λ t. omega (arith, c t, c1 t, c2 t)),
+  ranked-rows ρ p (n + 1 + size-labels as′ + size k) f b3 rest l3 (λ t. g t ∙ ap (rank t) q3) (λ t. omega (arith, c t, c1 t, c2 t, c3 t)),
+)
   where
     A : List Node
     A = attribute-rows (r .id) as′
+
     K : List Node
     K = rows (r .id) k
+
     F : List Node
     F = rows p f
+
     b1 : List Node
     b1 = before ++ (row p r ∷ [])
+
     b2 : List Node
     b2 = b1 ++ attribute-rows (r .id) as′
+
     b3 : List Node
     b3 = b2 ++ rows (r .id) k
+
     l1 : length b1 ≡ n + 1
     l1 = omega (arith, length-append before (row p r ∷ []))
+
     l2 : length b2 ≡ n + 1 + size-labels as′
     l2 = omega (arith, l1, length-append b1 (attribute-rows (r .id) as′), length-attribute-rows (r .id) as′)
+
     l3 : length b3 ≡ n + 1 + size-labels as′ + size k
     l3 = omega (arith, l2, length-append b2 (rows (r .id) k), length-of-rows (r .id) k)
+
     c1 : (t : ℕ) → count-rows t b1 ≡ count-rows t before + one (eqb (r .id) t)
     c1 t = omega (arith, count-rows-++ t before (row p r ∷ []))
+
     c2 : (t : ℕ) → count-rows t b2 ≡ count-rows t b1 + count-labels t as′
     c2 t = omega (arith, count-rows-++ t b1 (attribute-rows (r .id) as′), count-attribute-rows t (r .id) as′)
+
     c3 : (t : ℕ) → count-rows t b3 ≡ count-rows t b2 + count t k
     c3 t = omega (arith, count-rows-++ t b2 (rows (r .id) k), count-of-rows t (r .id) k)
+
     q1 : before ++ (row p r ∷ ((A ++ (K ++ F)) ++ rest)) ≡ b1 ++ (A ++ ((K ++ F) ++ rest))
     q1 = simp append-assoc
+
     q2 : before ++ (row p r ∷ ((A ++ (K ++ F)) ++ rest)) ≡ b2 ++ (K ++ (F ++ rest))
     q2 = simp append-assoc
+
     q3 : before ++ (row p r ∷ ((A ++ (K ++ F)) ++ rest)) ≡ b3 ++ (F ++ rest)
     q3 = simp append-assoc
 

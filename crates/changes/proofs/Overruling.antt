@@ -44,14 +44,14 @@ module _ (l : List Change) (t : ℕ) (r : Label) (as′ : List Label) (k f : For
       or-right (eqb (r .id) s && stands-in t k) (stands-in-content s t k || stands-in-content s t f) (or-right (stands-in-content s t k) (stands-in-content s t f) h)
 
   rule-inside : Above-rule l t k → Above-rule l t (node r as′ k f)
-  rule-inside (inl (s , h , b)) = inl (s, h, below-inside s b)
-  rule-inside (inr (inl (s , h , b))) = inr (inl (s, h, below-inside s b))
-  rule-inside (inr (inr (s , h , b))) = inr (inr (s, h, content-inside s b))
+  rule-inside (inl (s, h, b)) = inl (s, h, below-inside s b)
+  rule-inside (inr (inl (s, h, b))) = inr (inl (s, h, below-inside s b))
+  rule-inside (inr (inr (s, h, b))) = inr (inr (s, h, content-inside s b))
 
   rule-behind : Above-rule l t f → Above-rule l t (node r as′ k f)
-  rule-behind (inl (s , h , b)) = inl (s, h, below-behind s b)
-  rule-behind (inr (inl (s , h , b))) = inr (inl (s, h, below-behind s b))
-  rule-behind (inr (inr (s , h , b))) = inr (inr (s, h, content-behind s b))
+  rule-behind (inl (s, h, b)) = inl (s, h, below-behind s b)
+  rule-behind (inr (inl (s, h, b))) = inr (inl (s, h, below-behind s b))
+  rule-behind (inr (inr (s, h, b))) = inr (inr (s, h, content-behind s b))
 
 rule-above : (l : List Change) (t : ℕ) (f : Forest) → overridden-from-above l t f ≡ true → Above-rule l t f
 rule-above l t nil h = absurd (true≢false (sym h))
@@ -59,22 +59,29 @@ rule-above l t (node r as′ k f) h = split (or-cases A (B || (C || D)) h) (rule
   where
     A : Bool
     A = (has-change Delete (r .id) l || has-change ReplaceNode (r .id) l) && (ltb 0 (count-labels t as′) || stands-in t k)
+
     B : Bool
     B = has-change ReplaceContent (r .id) l && stands-in t k
+
     C : Bool
     C = overridden-from-above l t k
+
     D : Bool
     D = overridden-from-above l t f
+
     goes : (has-change Delete (r .id) l ≡ true) ⊎ (has-change ReplaceNode (r .id) l ≡ true) → (ltb 0 (count-labels t as′) || stands-in t k) ≡ true
-      → Above-rule l t (node r as′ k f)
+        → Above-rule l t (node r as′ k f)
     goes (inl a) b = inl (r .id, a, below-here l t r as′ k f b)
     goes (inr a) b = inr (inl (r .id, a, below-here l t r as′ k f b))
+
     deeper : (C ≡ true) ⊎ (D ≡ true) → (C ≡ true → Above-rule l t k) → (D ≡ true → Above-rule l t f) → Above-rule l t (node r as′ k f)
     deeper (inl a) p q = rule-inside l t r as′ k f (p a)
     deeper (inr a) p q = rule-behind l t r as′ k f (q a)
+
     later : (B ≡ true) ⊎ ((C || D) ≡ true) → (C ≡ true → Above-rule l t k) → (D ≡ true → Above-rule l t f) → Above-rule l t (node r as′ k f)
     later (inl a) p q = let u = and-parts (has-change ReplaceContent (r .id) l) (stands-in t k) a in inr (inr (r .id, u .0, content-here l t r as′ k f (u .1)))
     later (inr a) p q = deeper (or-cases C D a) p q
+
     split : (A ≡ true) ⊎ ((B || (C || D)) ≡ true) → (C ≡ true → Above-rule l t k) → (D ≡ true → Above-rule l t f) → Above-rule l t (node r as′ k f)
     split (inl a) p q =
         let u = and-parts (has-change Delete (r .id) l || has-change ReplaceNode (r .id) l) (ltb 0 (count-labels t as′) || stands-in t k) a in
@@ -90,18 +97,23 @@ removed-above l s t (node r as′ k f) h b =
   where
     A : Bool
     A = (has-change Delete (r .id) l || has-change ReplaceNode (r .id) l) && (ltb 0 (count-labels t as′) || stands-in t k)
+
     B : Bool
     B = has-change ReplaceContent (r .id) l && stands-in t k
+
     C : Bool
     C = overridden-from-above l t k
+
     D : Bool
     D = overridden-from-above l t f
+
     deeper : (stands-below s t k ≡ true) ⊎ (stands-below s t f ≡ true) → (stands-below s t k ≡ true → C ≡ true) → (stands-below s t f ≡ true → D ≡ true)
-      → (A || (B || (C || D))) ≡ true
+        → (A || (B || (C || D))) ≡ true
     deeper (inl a) p q = or-right A (B || (C || D)) (or-right B (C || D) (or-left C D (p a)))
     deeper (inr a) p q = or-right A (B || (C || D)) (or-right B (C || D) (or-right C D (q a)))
+
     split : ((eqb (r .id) s && (ltb 0 (count-labels t as′) || stands-in t k)) ≡ true) ⊎ ((stands-below s t k || stands-below s t f) ≡ true)
-      → (stands-below s t k ≡ true → C ≡ true) → (stands-below s t f ≡ true → D ≡ true) → (A || (B || (C || D))) ≡ true
+        → (stands-below s t k ≡ true → C ≡ true) → (stands-below s t f ≡ true → D ≡ true) → (A || (B || (C || D))) ≡ true
     split (inl a) p q =
         let u = and-parts (eqb (r .id) s) (ltb 0 (count-labels t as′) || stands-in t k) a in
         let v : (has-change Delete (r .id) l || has-change ReplaceNode (r .id) l) ≡ true = rw (eqb-true (r .id) s (u .0)) h in
@@ -115,18 +127,23 @@ content-above l s t (node r as′ k f) h b =
   where
     A : Bool
     A = (has-change Delete (r .id) l || has-change ReplaceNode (r .id) l) && (ltb 0 (count-labels t as′) || stands-in t k)
+
     B : Bool
     B = has-change ReplaceContent (r .id) l && stands-in t k
+
     C : Bool
     C = overridden-from-above l t k
+
     D : Bool
     D = overridden-from-above l t f
+
     deeper : (stands-in-content s t k ≡ true) ⊎ (stands-in-content s t f ≡ true) → (stands-in-content s t k ≡ true → C ≡ true) → (stands-in-content s t f ≡ true → D ≡ true)
-      → (A || (B || (C || D))) ≡ true
+        → (A || (B || (C || D))) ≡ true
     deeper (inl a) p q = or-right A (B || (C || D)) (or-right B (C || D) (or-left C D (p a)))
     deeper (inr a) p q = or-right A (B || (C || D)) (or-right B (C || D) (or-right C D (q a)))
+
     split : ((eqb (r .id) s && stands-in t k) ≡ true) ⊎ ((stands-in-content s t k || stands-in-content s t f) ≡ true)
-      → (stands-in-content s t k ≡ true → C ≡ true) → (stands-in-content s t f ≡ true → D ≡ true) → (A || (B || (C || D))) ≡ true
+        → (stands-in-content s t k ≡ true → C ≡ true) → (stands-in-content s t f ≡ true → D ≡ true) → (A || (B || (C || D))) ≡ true
     split (inl a) p q =
         let u = and-parts (eqb (r .id) s) (stands-in t k) a in
         let v : has-change ReplaceContent (r .id) l ≡ true = rw (eqb-true (r .id) s (u .0)) h in
@@ -140,15 +157,21 @@ either-or (inr b) p q = q b
 
 on-target-rule : (c : Code) (del rep con early : Bool) → overridden-on-target c del rep con early ≡ true
     → ((del ≡ true) × (yields-to-deletion c ≡ true)) ⊎ (((rep ≡ true) × (yields-to-replacement c ≡ true)) ⊎ (((con ≡ true) × (yields-to-content c ≡ true)) ⊎ ((early ≡ true)
-      × (same-code c Delete ≡ true))))
+    × (same-code c Delete ≡ true))))
 on-target-rule InsertBefore del rep con early h = absurd (true≢false (sym h))
 on-target-rule InsertAfter del rep con early h = absurd (true≢false (sym h))
-on-target-rule InsertFirst del rep con early h = either-or (or-cases (del || rep) con h) (λ p. either-or (or-cases del rep p) (λ q. inl (q,
-    refl)) (λ q. inr (inl (q, refl)))) (λ p. inr (inr (inl (p, refl))))
-on-target-rule InsertInto del rep con early h = either-or (or-cases (del || rep) con h) (λ p. either-or (or-cases del rep p) (λ q. inl (q,
-    refl)) (λ q. inr (inl (q, refl)))) (λ p. inr (inr (inl (p, refl))))
-on-target-rule InsertLast del rep con early h = either-or (or-cases (del || rep) con h) (λ p. either-or (or-cases del rep p) (λ q. inl (q,
-    refl)) (λ q. inr (inl (q, refl)))) (λ p. inr (inr (inl (p, refl))))
+on-target-rule InsertFirst del rep con early h = either-or (or-cases (del || rep) con h) (λ p. either-or (or-cases del rep p) (λ q. inl (
+  q,
+  refl,
+)) (λ q. inr (inl (q, refl)))) (λ p. inr (inr (inl (p, refl))))
+on-target-rule InsertInto del rep con early h = either-or (or-cases (del || rep) con h) (λ p. either-or (or-cases del rep p) (λ q. inl (
+  q,
+  refl,
+)) (λ q. inr (inl (q, refl)))) (λ p. inr (inr (inl (p, refl))))
+on-target-rule InsertLast del rep con early h = either-or (or-cases (del || rep) con h) (λ p. either-or (or-cases del rep p) (λ q. inl (
+  q,
+  refl,
+)) (λ q. inr (inl (q, refl)))) (λ p. inr (inr (inl (p, refl))))
 on-target-rule InsertAttributes del rep con early h = either-or (or-cases del rep h) (λ q. inl (q, refl)) (λ q. inr (inl (q, refl)))
 on-target-rule Delete del rep con early h = either-or (or-cases rep early h) (λ p. inr (inl (p, refl))) (λ p. inr (inr (inr (p, refl))))
 on-target-rule ReplaceNode del rep con early h = absurd (true≢false (sym h))
@@ -223,20 +246,21 @@ module _ (d : Forest) (l e : List Change) (o : Change) where
   early = has-change Delete (o .target) e
 
   by-above : Above-rule l (o .target) d → OverridingRule d l e o
-  by-above (inl (s , h , b)) = deleted-above s h b
-  by-above (inr (inl (s , h , b))) = replaced-above s h b
-  by-above (inr (inr (s , h , b))) = content-replaced-above s h b
+  by-above (inl (s, h, b)) = deleted-above s h b
+  by-above (inr (inl (s, h, b))) = replaced-above s h b
+  by-above (inr (inr (s, h, b))) = content-replaced-above s h b
 
   pub rule-found : overridden d l e o ≡ true → OverridingRule d l e o
   unfolding del rep con early
   rule-found h = go (or-cases (overridden-from-above l (o .target) d) (overridden-on-target (o .code) del rep con early) h)
     where
       here : ((del ≡ true) × (yields-to-deletion (o .code) ≡ true)) ⊎ (((rep ≡ true) × (yields-to-replacement (o .code) ≡ true))
-        ⊎ (((con ≡ true) × (yields-to-content (o .code) ≡ true)) ⊎ ((early ≡ true) × (same-code (o .code) Delete ≡ true)))) → OverridingRule d l e o
-      here (inl (p , q)) = target-deleted p q
-      here (inr (inl (p , q))) = target-replaced p q
-      here (inr (inr (inl (p , q)))) = content-replaced p q
-      here (inr (inr (inr (p , q)))) = deleted-before p q
+          ⊎ (((con ≡ true) × (yields-to-content (o .code) ≡ true)) ⊎ ((early ≡ true) × (same-code (o .code) Delete ≡ true)))) → OverridingRule d l e o
+      here (inl (p, q)) = target-deleted p q
+      here (inr (inl (p, q))) = target-replaced p q
+      here (inr (inr (inl (p, q)))) = content-replaced p q
+      here (inr (inr (inr (p, q)))) = deleted-before p q
+
       go : (overridden-from-above l (o .target) d ≡ true) ⊎ (overridden-on-target (o .code) del rep con early ≡ true) → OverridingRule d l e o
       go (inl p) = by-above (rule-above l (o .target) d p)
       go (inr p) = here (on-target-rule (o .code) del rep con early p)

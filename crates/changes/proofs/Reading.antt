@@ -23,7 +23,7 @@ joined-nodes-++ c [] k = refl
 joined-nodes-++ c (o ∷ l) k = go (same-code (o .code) c) refl (joined-nodes-++ c l k)
   where
     go : (b : Bool) → same-code (o .code) c ≡ b → joined-nodes c (l ++ k) ≡ joined-nodes c l ⊕ joined-nodes c k
-      → joined-nodes c ((o ∷ l) ++ k) ≡ joined-nodes c (o ∷ l) ⊕ joined-nodes c k
+        → joined-nodes c ((o ∷ l) ++ k) ≡ joined-nodes c (o ∷ l) ⊕ joined-nodes c k
     go true e h = rw (e, h, ⊕-assoc (o .nodes) (joined-nodes c l) (joined-nodes c k))
     go false e h = rw (e, h)
 
@@ -117,34 +117,55 @@ the-name t None = refl
 the-name t (Some g) = refl
 
 ruleset Pieces = (joined-nodes-++, joined-insertion, joined-deletion, joined-replacement, joined-new-value, joined-new-name, ⊕-nil)
+
 ruleset Firsts = (first-of-++, first-insertion, first-replacement, first-deletion, first-new-value, first-new-name, alt-none)
 
 -- the changes on one node are read back from its list
 pub node-changes-back : (t : ℕ) (a : NodeChanges) → node-changes (changes-by-code t a) ≡ a
 node-changes-back t a = λ i. record {
-    before = p-before i; after = p-after i; first = p-first i; into = p-into i; last = p-last i; attributes = p-attributes i;
-    deleted = p-deleted i; replaced = p-replaced i; revalued = p-revalued i; content = p-content i; renamed = p-renamed i }
+  before = p-before i;
+  after = p-after i;
+  first = p-first i;
+  into = p-into i;
+  last = p-last i;
+  attributes = p-attributes i;
+  deleted = p-deleted i;
+  replaced = p-replaced i;
+  revalued = p-revalued i;
+  content = p-content i;
+  renamed = p-renamed i;
+}
   where
     p-before : joined-nodes InsertBefore (changes-by-code t a) ≡ a .before
     p-before = simp Pieces (⊕-nil (a .before))
+
     p-after : joined-nodes InsertAfter (changes-by-code t a) ≡ a .after
     p-after = simp Pieces (⊕-nil (a .after))
+
     p-first : joined-nodes InsertFirst (changes-by-code t a) ≡ a .first
     p-first = simp Pieces (⊕-nil (a .first))
+
     p-into : joined-nodes InsertInto (changes-by-code t a) ≡ a .into
     p-into = simp Pieces (⊕-nil (a .into))
+
     p-last : joined-nodes InsertLast (changes-by-code t a) ≡ a .last
     p-last = simp Pieces (⊕-nil (a .last))
+
     p-attributes : joined-nodes InsertAttributes (changes-by-code t a) ≡ a .attributes
     p-attributes = simp Pieces (⊕-nil (a .attributes))
+
     p-deleted : is-some (first-of Delete (changes-by-code t a)) ≡ a .deleted
     p-deleted = simp (Firsts, the-deletion)
+
     p-replaced : nodes-given (first-of ReplaceNode (changes-by-code t a)) ≡ a .replaced
     p-replaced = simp (Firsts, the-replacement)
+
     p-revalued : value-given (first-of ReplaceValue (changes-by-code t a)) ≡ a .revalued
     p-revalued = simp (Firsts, the-value)
+
     p-content : nodes-given (first-of ReplaceContent (changes-by-code t a)) ≡ a .content
     p-content = simp (Firsts, the-content)
+
     p-renamed : name-given (first-of Rename (changes-by-code t a)) ≡ a .renamed
     p-renamed = simp (Firsts, the-name)
 
@@ -196,15 +217,26 @@ agree-marks l (marked r a as′ k f) h = rw (h .0, node-changes-back (r .id) a, 
 -- nothing is on a node that is not there
 pub off-labels : (t : ℕ) (ms : List MarkedLabel) → count-labels t (unmark-labels ms) ≡ 0 → changes-on t (label-changes-in-order ms) ≡ []
 off-labels t [] e = refl
-off-labels t (m ∷ ms) e = rw (changes-on-++ t (changes-by-code (m .label .id) (m .changes)) (label-changes-in-order ms), on-changes-by-code t (m .label .id) (m .changes),
-    one-zero (eqb (m .label .id) t) (omega arith), off-labels t ms (omega arith))
+off-labels t (m ∷ ms) e = rw (
+  changes-on-++ t (changes-by-code (m .label .id) (m .changes)) (label-changes-in-order ms),
+  on-changes-by-code t (m .label .id) (m .changes),
+  one-zero (eqb (m .label .id) t) (omega arith),
+  off-labels t ms (omega arith),
+)
 
 pub off : (t : ℕ) (m : MarkedForest) → count t (unmark m) ≡ 0 → changes-on t (changes-in-order m) ≡ []
 off t no-marks e = refl
 off t (marked r a as′ k f) e =
-    rw (changes-on-++ t (changes-by-code (r .id) a) (label-changes-in-order as′ ++ (changes-in-order k ++ changes-in-order f)),
-        changes-on-++ t (label-changes-in-order as′) (changes-in-order k ++ changes-in-order f), changes-on-++ t (changes-in-order k) (changes-in-order f),
-      on-changes-by-code t (r .id) a, one-zero (eqb (r .id) t) (omega arith), off-labels t as′ (omega arith), off t k (omega arith), off t f (omega arith))
+    rw (
+      changes-on-++ t (changes-by-code (r .id) a) (label-changes-in-order as′ ++ (changes-in-order k ++ changes-in-order f)),
+      changes-on-++ t (label-changes-in-order as′) (changes-in-order k ++ changes-in-order f),
+      changes-on-++ t (changes-in-order k) (changes-in-order f),
+      on-changes-by-code t (r .id) a,
+      one-zero (eqb (r .id) t) (omega arith),
+      off-labels t as′ (omega arith),
+      off t k (omega arith),
+      off t f (omega arith),
+    )
 
 pub agree-own-labels : (l : List Change) (ms : List MarkedLabel) → ((t : ℕ) → count-labels t (unmark-labels ms) ≤ 1)
     → ((t : ℕ) → 1 ≤ count-labels t (unmark-labels ms) → changes-on t l ≡ changes-on t (label-changes-in-order ms)) → AgreeLabels l ms
@@ -216,22 +248,32 @@ agree-own-labels l (m ∷ ms) d h = (own, agree-own-labels l ms (λ t. omega (ar
         let u = one-refl (m .label .id) in
         let v = d (m .label .id) in
         h (m .label .id) (omega arith)
-        ∙ rw (changes-on-++ (m .label .id) (changes-by-code (m .label .id) (m .changes)) (label-changes-in-order ms),
-            on-changes-by-code (m .label .id) (m .label .id) (m .changes), eq-eqb (m .label .id) (m .label .id) refl,
-            off-labels (m .label .id) ms (omega arith)) (append-nil (changes-by-code (m .label .id) (m .changes)))
+        ∙ rw (
+          changes-on-++ (m .label .id) (changes-by-code (m .label .id) (m .changes)) (label-changes-in-order ms),
+          on-changes-by-code (m .label .id) (m .label .id) (m .changes),
+          eq-eqb (m .label .id) (m .label .id) refl,
+          off-labels (m .label .id) ms (omega arith),
+        ) (append-nil (changes-by-code (m .label .id) (m .changes)))
+
     rest : (t : ℕ) → 1 ≤ count-labels t (unmark-labels ms) → changes-on t l ≡ changes-on t (label-changes-in-order ms)
     rest t p =
         let v = d t in
-        h t (omega arith) ∙ rw (changes-on-++ t (changes-by-code (m .label .id) (m .changes)) (label-changes-in-order ms), on-changes-by-code t (m .label .id) (m .changes),
-            one-zero (eqb (m .label .id) t) (omega arith))
+        h t (omega arith) ∙ rw (
+          changes-on-++ t (changes-by-code (m .label .id) (m .changes)) (label-changes-in-order ms),
+          on-changes-by-code t (m .label .id) (m .changes),
+          one-zero (eqb (m .label .id) t) (omega arith),
+        )
 
 on-node : (t : ℕ) (r : Label) (a : NodeChanges) (as′ : List MarkedLabel) (k f : MarkedForest)
     → changes-on t (changes-in-order (marked r a as′ k f))
     ≡ cond (eqb (r .id) t) (changes-by-code (r .id) a) [] ++ (changes-on t (label-changes-in-order as′) ++ (changes-on t (changes-in-order k) ++ changes-on t (changes-in-order f)))
 on-node t r a as′ k f =
-    rw (changes-on-++ t (changes-by-code (r .id) a) (label-changes-in-order as′ ++ (changes-in-order k ++ changes-in-order f)),
-        changes-on-++ t (label-changes-in-order as′) (changes-in-order k ++ changes-in-order f), changes-on-++ t (changes-in-order k) (changes-in-order f),
-        on-changes-by-code t (r .id) a)
+    rw (
+      changes-on-++ t (changes-by-code (r .id) a) (label-changes-in-order as′ ++ (changes-in-order k ++ changes-in-order f)),
+      changes-on-++ t (label-changes-in-order as′) (changes-in-order k ++ changes-in-order f),
+      changes-on-++ t (changes-in-order k) (changes-in-order f),
+      on-changes-by-code t (r .id) a,
+    )
 
 pub agree-own : (l : List Change) (m : MarkedForest) → ((t : ℕ) → count t (unmark m) ≤ 1)
     → ((t : ℕ) → 1 ≤ count t (unmark m) → changes-on t l ≡ changes-on t (changes-in-order m)) → Agree l m
@@ -244,18 +286,25 @@ agree-own l (marked r a as′ k f) d h =
         let u = one-refl (r .id) in
         let v = d (r .id) in
         h (r .id) (omega arith) ∙ on-node (r .id) r a as′ k f
-        ∙ rw (eq-eqb (r .id) (r .id) refl, off-labels (r .id) as′ (omega arith), off (r .id) k (omega arith),
-            off (r .id) f (omega arith)) (append-nil (changes-by-code (r .id) a))
+        ∙ rw (
+          eq-eqb (r .id) (r .id) refl,
+          off-labels (r .id) as′ (omega arith),
+          off (r .id) k (omega arith),
+          off (r .id) f (omega arith),
+        ) (append-nil (changes-by-code (r .id) a))
+
     among : (t : ℕ) → 1 ≤ count-labels t (unmark-labels as′) → changes-on t l ≡ changes-on t (label-changes-in-order as′)
     among t p =
         let v = d t in
         h t (omega arith) ∙ on-node t r a as′ k f
         ∙ rw (one-zero (eqb (r .id) t) (omega arith), off t k (omega arith), off t f (omega arith)) (append-nil (changes-on t (label-changes-in-order as′)))
+
     below : (t : ℕ) → 1 ≤ count t (unmark k) → changes-on t l ≡ changes-on t (changes-in-order k)
     below t p =
         let v = d t in
         h t (omega arith) ∙ on-node t r a as′ k f
         ∙ rw (one-zero (eqb (r .id) t) (omega arith), off-labels t as′ (omega arith), off t f (omega arith)) (append-nil (changes-on t (changes-in-order k)))
+
     behind : (t : ℕ) → 1 ≤ count t (unmark f) → changes-on t l ≡ changes-on t (changes-in-order f)
     behind t p =
         let v = d t in
@@ -265,4 +314,3 @@ agree-own l (marked r a as′ k f) d h =
 -- the marks of a marked document come back from its list
 pub marks-back : (m : MarkedForest) → ((t : ℕ) → count t (unmark m) ≤ 1) → mark (changes-in-order m) (unmark m) ≡ m
 marks-back m d = agree-marks (changes-in-order m) m (agree-own (changes-in-order m) m d (λ t p. refl))
-

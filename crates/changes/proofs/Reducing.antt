@@ -47,8 +47,8 @@ without-overridden-same no-marks = refl
 without-overridden-same (marked r a as′ k f) = go (removed a) (a .content) refl refl (without-overridden-same k) (without-overridden-same f)
   where
     go : (b : Bool) (o : Option Forest) → removed a ≡ b → a .content ≡ o → all-stages-at-once (without-overridden k) ≡ all-stages-at-once k
-      → all-stages-at-once (without-overridden f) ≡ all-stages-at-once f
-      → all-stages-at-once (without-overridden (marked r a as′ k f)) ≡ all-stages-at-once (marked r a as′ k f)
+        → all-stages-at-once (without-overridden f) ≡ all-stages-at-once f
+        → all-stages-at-once (without-overridden (marked r a as′ k f)) ≡ all-stages-at-once (marked r a as′ k f)
     go true o e q hk hf = rw (e, goes-still (a .replaced), empty-or-else (a .replaced), hf)
     go false None e q hk hf = rw (e, q, left-kept as′, left-replacing as′, hk, hf)
     go false (Some c) e q hk hf = rw (e, q, left-kept as′, left-replacing as′, hf)
@@ -60,7 +60,7 @@ pub gathered-children : (a : NodeChanges) (g : Forest) (k : MarkedForest)
 gathered-children a g k h = go (a .content) refl
   where
     go : (o : Option Forest) → a .content ≡ o → children-after (gathered-on-node a g (before-first k (a .last))) (all-stages-at-once (gathered-by-gap k (a .last)))
-      ≡ children-after a (all-stages-at-once k)
+        ≡ children-after a (all-stages-at-once k)
     go None e = rw e (simp (⊕-assoc, ⊕-nil, h))
     go (Some c) e = rw e
 
@@ -86,7 +86,7 @@ without-overridden-unmark no-marks = refl
 without-overridden-unmark (marked r a as′ k f) = go (removed a) (is-some (a .content)) refl refl (without-overridden-unmark k) (without-overridden-unmark f)
   where
     go : (b c : Bool) → removed a ≡ b → is-some (a .content) ≡ c → unmark (without-overridden k) ≡ unmark k → unmark (without-overridden f) ≡ unmark f
-      → unmark (without-overridden (marked r a as′ k f)) ≡ unmark (marked r a as′ k f)
+        → unmark (without-overridden (marked r a as′ k f)) ≡ unmark (marked r a as′ k f)
     go true c e q hk hf = rw (e, cleared-labels-unmark as′, cleared-unmark k, hf)
     go false false e q hk hf = rw (e, q, left-labels-unmark as′, hk, hf)
     go false true e q hk hf = rw (e, q, left-labels-unmark as′, cleared-unmark k, hf)
@@ -114,4 +114,3 @@ left-before-first (marked r a as′ k f) g = left-before a
 pub reduced-same-at-root : (m : MarkedForest) → before-first m nil ≡ nil → all-stages-at-once (reduced-marks m) ≡ all-stages-at-once m
 reduced-same-at-root m e = (rw (left-before-first m nil ∙ e) at (gathered-same (without-overridden m) nil)) ∙ ⊕-nil (all-stages-at-once (without-overridden m))
     ∙ without-overridden-same m
-

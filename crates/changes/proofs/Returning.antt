@@ -42,7 +42,7 @@ names-insert n x [] = refl
 names-insert n x (y ∷ l) = go (ltb (x .id) (y .label .id)) (names-insert n x l)
   where
     go : (b : Bool) → names-by-labels n (insert-marked (record { label = x; changes = deletion }) l) ≡ names-by-labels n l
-      → names-by-labels n (cond b (record { label = x; changes = deletion } ∷ y ∷ l) (y ∷ insert-marked (record { label = x; changes = deletion }) l))
+        → names-by-labels n (cond b (record { label = x; changes = deletion } ∷ y ∷ l) (y ∷ insert-marked (record { label = x; changes = deletion }) l))
         ≡ names-by-labels n (y ∷ l)
     go true h = omega arith
     go false h = omega arith
@@ -57,27 +57,37 @@ inverse-named (marked r a as′ k f) s h n = go (removed a) (a .content) refl (i
   where
     come : List Label
     come = replacing-labels as′ ++ root-labels (a .attributes)
+
     after-sound : Sound (a .after)
     after-sound = beside-sound (r .kind) (a .after) (h .0 .after)
+
     own : (i : ℕ) → count-names i (unmark-labels (insert-all-marked (labels-taken-out come) (labels-undone as′)))
-      + (count-names i (root-labels (childless (removed-labels as′))) + names-by-labels i (insert-all-marked (labels-taken-out come) (labels-undone as′))) ≤ 1
+        + (count-names i (root-labels (childless (removed-labels as′))) + names-by-labels i (insert-all-marked (labels-taken-out come) (labels-undone as′))) ≤ 1
     own i =
-        rw (unmark-insert-all-marked (labels-taken-out come) (labels-undone as′), unmark-labels-taken-out come, unmark-labels-undone as′,
-            root-labels-childless (removed-labels as′),
-            names-taken i come (labels-undone as′))
-          (omega (arith, count-names-inserts i come (kept-labels as′), count-names-++ i (replacing-labels as′) (root-labels (a .attributes)), names-balance i as′, n .0 i))
+        rw (
+          unmark-insert-all-marked (labels-taken-out come) (labels-undone as′),
+          unmark-labels-taken-out come,
+          unmark-labels-undone as′,
+          root-labels-childless (removed-labels as′),
+          names-taken i come (labels-undone as′),
+        )
+        (omega (arith, count-names-inserts i come (kept-labels as′), count-names-++ i (replacing-labels as′) (root-labels (a .attributes)), names-balance i as′, n .0 i))
+
     go : (b : Bool) (o : Option Forest) → a .content ≡ o → Named (inverse-marks k) → Named (inverse-marks f)
-      → Named (cond b (taken-out (or-else (a .replaced) nil) ⊞ (taken-out (a .after) ⊞ inverse-marks f))
+        → Named (cond b (taken-out (or-else (a .replaced) nil) ⊞ (taken-out (a .after) ⊞ inverse-marks f))
         (marked (relabelled r a)
-          (undone r a (removed-run f) (cond (is-some (a .content)) (unmark k) (removed-run k)) (childless (removed-labels as′)))
-          (insert-all-marked (labels-taken-out (replacing-labels as′ ++ root-labels (a .attributes))) (labels-undone as′))
-          (cond (is-some (a .content)) (taken-out (or-else (a .content) nil)) (taken-out (a .first) ⊞ inverse-marks k))
-          (taken-out (a .after) ⊞ inverse-marks f)))
+        (undone r a (removed-run f) (cond (is-some (a .content)) (unmark k) (removed-run k)) (childless (removed-labels as′)))
+        (insert-all-marked (labels-taken-out (replacing-labels as′ ++ root-labels (a .attributes))) (labels-undone as′))
+        (cond (is-some (a .content)) (taken-out (or-else (a .content) nil)) (taken-out (a .first) ⊞ inverse-marks k))
+        (taken-out (a .after) ⊞ inverse-marks f)))
     go true o e qk qf =
         taken-out-named (or-else (a .replaced) nil) _ (instead-sound (r .kind) (unmark-labels as′) (unmark k) (a .replaced) (s .1) (h .0 .replaced))
-          (taken-out-named (a .after) (inverse-marks f) after-sound qf)
+        (taken-out-named (a .after) (inverse-marks f) after-sound qf)
     go false None e qk qf =
-        rw e (own, taken-out-named (a .first) (inverse-marks k) (inside-sound (r .kind) (a .first) (h .0 .first)) qk,
-            taken-out-named (a .after) (inverse-marks f) after-sound qf)
+        rw e (
+          own,
+          taken-out-named (a .first) (inverse-marks k) (inside-sound (r .kind) (a .first) (h .0 .first)) qk,
+          taken-out-named (a .after) (inverse-marks f) after-sound qf,
+        )
     go false (Some c) e qk qf =
         rw e (own, taken-out-alone-named c (content-sound (r .kind) c (rw e at (h .0 .content))), taken-out-named (a .after) (inverse-marks f) after-sound qf)

@@ -10,4 +10,3 @@ pub ⊕-nil : (f : Forest) → f ⊕ nil ≡ f
 pub ⊕-assoc : (f g h : Forest) → (f ⊕ g) ⊕ h ≡ f ⊕ (g ⊕ h)
 ⊕-assoc nil g h = refl
 ⊕-assoc (node r as′ k f) g h = ap (λ x. node r as′ k x) (⊕-assoc f g h)
-

@@ -53,9 +53,9 @@ settled no-marks g = refl
 settled (marked r a as′ k f) g = go (removed a) (a .content) refl refl (settled k (a .last)) (settled f g)
   where
     go : (b : Bool) (o : Option Forest) → removed a ≡ b → a .content ≡ o
-      → without-overridden (gathered-by-gap (without-overridden k) (a .last)) ≡ gathered-by-gap (without-overridden k) (a .last)
-      → without-overridden (gathered-by-gap (without-overridden f) g) ≡ gathered-by-gap (without-overridden f) g
-      → without-overridden (gathered-by-gap (without-overridden (marked r a as′ k f)) g) ≡ gathered-by-gap (without-overridden (marked r a as′ k f)) g
+        → without-overridden (gathered-by-gap (without-overridden k) (a .last)) ≡ gathered-by-gap (without-overridden k) (a .last)
+        → without-overridden (gathered-by-gap (without-overridden f) g) ≡ gathered-by-gap (without-overridden f) g
+        → without-overridden (gathered-by-gap (without-overridden (marked r a as′ k f)) g) ≡ gathered-by-gap (without-overridden (marked r a as′ k f)) g
     go true o e q hk hf =
         rw (e, before-cleared k, gathered-cleared k, goes-still (a .replaced), unless-empty-again (a .replaced), cleared-labels-again as′, cleared-again k, hf)
     go false None e q hk hf = rw (e, q, left-labels-again as′, hk, hf)
@@ -96,7 +96,7 @@ left-insert x [] e = rw e
 left-insert x (y ∷ l) e = go (ltb (x .label .id) (y .label .id)) refl (left-insert x l e)
   where
     go : (b : Bool) → ltb (x .label .id) (y .label .id) ≡ b → left-on-labels (insert-marked x l) ≡ insert-marked x (left-on-labels l)
-      → left-on-labels (insert-marked x (y ∷ l)) ≡ insert-marked x (left-on-labels (y ∷ l))
+        → left-on-labels (insert-marked x (y ∷ l)) ≡ insert-marked x (left-on-labels (y ∷ l))
     go true q k = rw (q, e)
     go false q k = rw (q, k)
 
@@ -119,11 +119,12 @@ inverse-settled no-marks = refl
 inverse-settled (marked r a as′ k f) = go (removed a) (a .content) refl refl (inverse-settled k) (inverse-settled f)
   where
     labels : left-on-labels (insert-all-marked (labels-taken-out (replacing-labels as′ ++ root-labels (a .attributes))) (labels-undone as′))
-      ≡ insert-all-marked (labels-taken-out (replacing-labels as′ ++ root-labels (a .attributes))) (labels-undone as′)
+        ≡ insert-all-marked (labels-taken-out (replacing-labels as′ ++ root-labels (a .attributes))) (labels-undone as′)
     labels = left-taken (replacing-labels as′ ++ root-labels (a .attributes)) (labels-undone as′)
-      ∙ ap (insert-all-marked (labels-taken-out (replacing-labels as′ ++ root-labels (a .attributes)))) (left-undone as′)
+        ∙ ap (insert-all-marked (labels-taken-out (replacing-labels as′ ++ root-labels (a .attributes)))) (left-undone as′)
+
     go : (b : Bool) (o : Option Forest) → removed a ≡ b → a .content ≡ o → without-overridden (inverse-marks k) ≡ inverse-marks k
-      → without-overridden (inverse-marks f) ≡ inverse-marks f → without-overridden (inverse-marks (marked r a as′ k f)) ≡ inverse-marks (marked r a as′ k f)
+        → without-overridden (inverse-marks f) ≡ inverse-marks f → without-overridden (inverse-marks (marked r a as′ k f)) ≡ inverse-marks (marked r a as′ k f)
     go true o e q hk hf =
         rw (e, taken-out-settled (or-else (a .replaced) nil) (taken-out (a .after) ⊞ inverse-marks f), taken-out-settled (a .after) (inverse-marks f), hf)
     go false None e q hk hf = rw (e, q, labels, taken-out-settled (a .first) (inverse-marks k), taken-out-settled (a .after) (inverse-marks f), hk, hf)
@@ -146,12 +147,15 @@ inverse-gathered no-marks = tt
 inverse-gathered (marked r a as′ k f) = go (removed a) (a .content) refl refl (inverse-gathered k) (inverse-gathered f)
   where
     go : (b : Bool) (o : Option Forest) → removed a ≡ b → a .content ≡ o → Gathered (inverse-marks k) → Gathered (inverse-marks f)
-      → Gathered (inverse-marks (marked r a as′ k f))
+        → Gathered (inverse-marks (marked r a as′ k f))
     go true o e q hk hf =
         rw e (gathered-⊞ (taken-out (or-else (a .replaced) nil)) _ (gathered-taken-out (or-else (a .replaced) nil)) (gathered-⊞ (taken-out (a .after)) _ (gathered-taken-out (a .after)) hf))
     go false None e q hk hf =
-        rw (e, q) ((refl, refl, refl), gathered-⊞ (taken-out (a .first)) _ (gathered-taken-out (a .first)) hk,
-            gathered-⊞ (taken-out (a .after)) _ (gathered-taken-out (a .after)) hf)
+        rw (e, q) (
+          (refl, refl, refl),
+          gathered-⊞ (taken-out (a .first)) _ (gathered-taken-out (a .first)) hk,
+          gathered-⊞ (taken-out (a .after)) _ (gathered-taken-out (a .after)) hf,
+        )
     go false (Some c) e q hk hf =
         rw (e, q) ((refl, refl, refl), gathered-taken-out c, gathered-⊞ (taken-out (a .after)) _ (gathered-taken-out (a .after)) hf)
 

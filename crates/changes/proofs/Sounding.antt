@@ -65,12 +65,13 @@ replacing-attributes (m ∷ l) h =
 formed-relabelled : (κ : Kind) (r : Label) (a : NodeChanges) → r .kind ≡ κ → Formed r → Revalued κ (a .revalued) → Renamed κ (a .renamed) → Formed (relabelled r a)
 formed-relabelled κ r a e h v n =
     and-from (ltb 0 (r .id)) (fields-suit-kind (r .kind) (or-else (a .renamed) (r .name)) (or-else (a .revalued) (r .value))) (u .0)
-      (rw e (fields κ (a .renamed) (a .revalued) v n (rw e at (u .1))))
+    (rw e (fields κ (a .renamed) (a .revalued) v n (rw e at (u .1))))
   where
     u : (ltb 0 (r .id) ≡ true) × (fields-suit-kind (r .kind) (r .name) (r .value) ≡ true)
     u = and-parts (ltb 0 (r .id)) (fields-suit-kind (r .kind) (r .name) (r .value)) h
+
     fields : (μ : Kind) (o p : Option ℕ) → Revalued μ p → Renamed μ o → fields-suit-kind μ (r .name) (r .value) ≡ true
-      → fields-suit-kind μ (or-else o (r .name)) (or-else p (r .value)) ≡ true
+        → fields-suit-kind μ (or-else o (r .name)) (or-else p (r .value)) ≡ true
     fields Element None p w q t = rw w t
     fields Element (Some m) p w q t = rw (w, q) (and-parts (ltb 0 (r .name)) (eqb (r .value) 0) t .1)
     fields Attribute None p w q t = t
@@ -107,7 +108,7 @@ count-names-insert n x [] = refl
 count-names-insert n x (y ∷ l) = go (ltb (x .id) (y .id)) (count-names-insert n x l)
   where
     go : (b : Bool) → count-names n (insert-label x l) ≡ one (eqb (x .name) n) + count-names n l
-      → count-names n (cond b (x ∷ y ∷ l) (y ∷ insert-label x l)) ≡ one (eqb (x .name) n) + count-names n (y ∷ l)
+        → count-names n (cond b (x ∷ y ∷ l) (y ∷ insert-label x l)) ≡ one (eqb (x .name) n) + count-names n (y ∷ l)
     go true h = refl
     go false h = omega arith
 
@@ -122,18 +123,20 @@ new-name-counts n (Some v) m = omega arith
 -- the names that come, those that stay, those that went and the old ones of those renamed are the old and the given ones
 pub names-balance : (n : ℕ) (l : List MarkedLabel)
     → count-names n (replacing-labels l) + (count-names n (kept-labels l) + (count-names n (removed-labels l) + names-by-labels n (labels-undone l)))
-      ≤ count-names n (unmark-labels l) + names-by-labels n l
+    ≤ count-names n (unmark-labels l) + names-by-labels n l
 names-balance n [] = omega arith
 names-balance n (m ∷ l) = go (removed (m .changes)) refl (names-balance n l)
   where
     a : NodeChanges
     a = m .changes
+
     plus : count-names n (replacing-labels (m ∷ l)) ≡ count-names n (root-labels (or-else (a .replaced) nil)) + count-names n (replacing-labels l)
     plus = count-names-++ n (root-labels (or-else (a .replaced) nil)) (replacing-labels l)
+
     go : (b : Bool) → removed a ≡ b
-      → count-names n (replacing-labels l) + (count-names n (kept-labels l) + (count-names n (removed-labels l) + names-by-labels n (labels-undone l)))
+        → count-names n (replacing-labels l) + (count-names n (kept-labels l) + (count-names n (removed-labels l) + names-by-labels n (labels-undone l)))
         ≤ count-names n (unmark-labels l) + names-by-labels n l
-      → count-names n (replacing-labels (m ∷ l)) + (count-names n (kept-labels (m ∷ l)) + (count-names n (removed-labels (m ∷ l)) + names-by-labels n (labels-undone (m ∷ l))))
+        → count-names n (replacing-labels (m ∷ l)) + (count-names n (kept-labels (m ∷ l)) + (count-names n (removed-labels (m ∷ l)) + names-by-labels n (labels-undone (m ∷ l))))
         ≤ count-names n (unmark-labels (m ∷ l)) + names-by-labels n (m ∷ l)
     go true e h = rw e (omega (arith, plus))
     go false e h =
@@ -145,19 +148,23 @@ labels-sound : (κ : Kind) (a : NodeChanges) (as′ : List MarkedLabel) → Attr
     → ((n : ℕ) → count-names n (unmark-labels as′) + (count-names n (root-labels (a .attributes)) + names-by-labels n as′) ≤ 1)
     → ((t : ℕ) → count-labels t (insert-labels (replacing-labels as′ ++ root-labels (a .attributes)) (kept-labels as′)) ≤ 1)
     → Attributes (insert-labels (replacing-labels as′ ++ root-labels (a .attributes)) (kept-labels as′))
-      × Above 0 (insert-labels (replacing-labels as′ ++ root-labels (a .attributes)) (kept-labels as′))
-      × ((n : ℕ) → count-names n (insert-labels (replacing-labels as′ ++ root-labels (a .attributes)) (kept-labels as′)) ≤ 1)
-labels-sound κ a as′ s o h l names once =
-    (all, above-rising 0 after (over-zero after) (rising-insert-labels come (kept-labels as′) (rising-kept as′ (rising-above 0 (unmark-labels as′) o))) (attributes-above-zero after all) once,
-      λ n. omega (arith, count-names-inserts n come (kept-labels as′), count-names-++ n (replacing-labels as′) (root-labels (a .attributes)), names-balance n as′, names n))
+    × Above 0 (insert-labels (replacing-labels as′ ++ root-labels (a .attributes)) (kept-labels as′))
+    × ((n : ℕ) → count-names n (insert-labels (replacing-labels as′ ++ root-labels (a .attributes)) (kept-labels as′)) ≤ 1)
+labels-sound κ a as′ s o h l names once = (
+  all,
+  above-rising 0 after (over-zero after) (rising-insert-labels come (kept-labels as′) (rising-kept as′ (rising-above 0 (unmark-labels as′) o))) (attributes-above-zero after all) once,
+  λ n. omega (arith, count-names-inserts n come (kept-labels as′), count-names-++ n (replacing-labels as′) (root-labels (a .attributes)), names-balance n as′, names n),
+)
   where
     come : List Label
     come = replacing-labels as′ ++ root-labels (a .attributes)
+
     after : List Label
     after = insert-labels come (kept-labels as′)
+
     all : Attributes after
     all = attributes-inserts come (kept-labels as′)
-      (attributes-++ (replacing-labels as′) (root-labels (a .attributes)) (replacing-attributes as′ l) (among-attributes κ (a .attributes) (h .attributes))) (kept-attributes as′ s l)
+        (attributes-++ (replacing-labels as′) (root-labels (a .attributes)) (replacing-attributes as′ l) (among-attributes κ (a .attributes) (h .attributes))) (kept-attributes as′ s l)
 
 -- a text keeps nothing below it
 holds-after : (κ : Kind) (a : NodeChanges) (as′ : List MarkedLabel) (k : MarkedForest) → Holds κ (unmark-labels as′) (unmark k) → Fitting κ a
@@ -182,31 +189,47 @@ pub sound-after : (m : MarkedForest) → Sound (unmark m) → Fit m → Named m 
 sound-after no-marks s h n c = tt
 sound-after (marked r a as′ k f) s h n c =
     sound-⊕ (a .before) _ (beside-sound (r .kind) (a .before) (h .0 .before))
-      (sound-⊕ mid _ (middle (removed a) refl (sound-after k (s .3) (h .2) (n .1)))
-        (sound-⊕ (a .after) _ (beside-sound (r .kind) (a .after) (h .0 .after)) (sound-after f (s .4) (h .3) (n .2) (λ t. omega (arith, c t, split t)))))
+    (sound-⊕ mid _ (middle (removed a) refl (sound-after k (s .3) (h .2) (n .1)))
+    (sound-⊕ (a .after) _ (beside-sound (r .kind) (a .after) (h .0 .after)) (sound-after f (s .4) (h .3) (n .2) (λ t. omega (arith, c t, split t)))))
   where
     labels : List Label
     labels = insert-labels (replacing-labels as′ ++ root-labels (a .attributes)) (kept-labels as′)
+
     mid : Forest
     mid = cond (removed a) (or-else (a .replaced) nil) (node (relabelled r a) labels (children-after a (all-stages-at-once k)) nil)
+
     split : (t : ℕ) → count t (all-stages-at-once (marked r a as′ k f)) ≡ count t (a .before) + (count t mid + (count t (a .after) + count t (all-stages-at-once f)))
-    split t = omega (arith, count-⊕ t (a .before) (mid ⊕ (a .after ⊕ all-stages-at-once f)), count-⊕ t mid (a .after ⊕ all-stages-at-once f),
-        count-⊕ t (a .after) (all-stages-at-once f))
+    split t = omega (
+      arith,
+      count-⊕ t (a .before) (mid ⊕ (a .after ⊕ all-stages-at-once f)),
+      count-⊕ t mid (a .after ⊕ all-stages-at-once f),
+      count-⊕ t (a .after) (all-stages-at-once f),
+    )
+
     children : (o : Option Forest) → a .content ≡ o → (((t : ℕ) → count t (all-stages-at-once k) ≤ 1) → Sound (all-stages-at-once k))
-      → ((t : ℕ) → count t (children-after a (all-stages-at-once k)) ≤ 1) → Sound (children-after a (all-stages-at-once k))
+        → ((t : ℕ) → count t (children-after a (all-stages-at-once k)) ≤ 1) → Sound (children-after a (all-stages-at-once k))
     children (Some x) e q b = rw e (content-sound (r .kind) x (rw e at (h .0 .content)))
     children None e q b =
         rw e (sound-⊕ (a .first) _ (inside-sound (r .kind) (a .first) (h .0 .first))
-          (sound-⊕ (a .into) _ (inside-sound (r .kind) (a .into) (h .0 .into))
-            (sound-⊕ (all-stages-at-once k) (a .last) (q (λ t. let u = rw e at (b t) in
-                omega (arith, count-⊕ t (a .first) (a .into ⊕ (all-stages-at-once k ⊕ a .last)), count-⊕ t (a .into) (all-stages-at-once k ⊕ a .last),
-                    count-⊕ t (all-stages-at-once k) (a .last))))
-              (inside-sound (r .kind) (a .last) (h .0 .last)))))
+        (sound-⊕ (a .into) _ (inside-sound (r .kind) (a .into) (h .0 .into))
+        (sound-⊕ (all-stages-at-once k) (a .last) (q (λ t. let u = rw e at (b t) in
+        omega (
+          arith,
+          count-⊕ t (a .first) (a .into ⊕ (all-stages-at-once k ⊕ a .last)),
+          count-⊕ t (a .into) (all-stages-at-once k ⊕ a .last),
+          count-⊕ t (all-stages-at-once k) (a .last),
+        )))
+        (inside-sound (r .kind) (a .last) (h .0 .last)))))
+
     middle : (b : Bool) → removed a ≡ b → (((t : ℕ) → count t (all-stages-at-once k) ≤ 1) → Sound (all-stages-at-once k)) → Sound mid
     middle true e q = rw e (instead-sound (r .kind) (unmark-labels as′) (unmark k) (a .replaced) (s .1) (h .0 .replaced))
     middle false e q =
         let whole : (t : ℕ) → count t mid ≤ 1 = λ t. omega (arith, c t, split t) in
         let inner : (t : ℕ) → one (eqb (r .id) t) + (count-labels t labels + (count t (children-after a (all-stages-at-once k)) + 0)) ≤ 1 = λ t. rw e at (whole t) in
-        rw e (formed-relabelled (r .kind) r a refl (s .0) (h .0 .revalued) (h .0 .renamed), holds-after (r .kind) a as′ k (s .1) (h .0),
+        rw e (
+          formed-relabelled (r .kind) r a refl (s .0) (h .0 .revalued) (h .0 .renamed),
+          holds-after (r .kind) a as′ k (s .1) (h .0),
           labels-sound (r .kind) a as′ (s .2 .0) (s .2 .1) (h .0) (h .1) (n .0) (λ t. omega (arith, inner t)),
-          children (a .content) refl q (λ t. omega (arith, inner t)), tt)
+          children (a .content) refl q (λ t. omega (arith, inner t)),
+          tt,
+        )

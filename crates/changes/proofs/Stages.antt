@@ -52,8 +52,13 @@ module _ (l : List Change) where
 
   still-stage-3 : (g : Forest) → Still l g → stage-3-replaced-nodes l g ≡ g
   still-stage-3 nil h = refl
-  still-stage-3 (node r as′ k f) h = rw (still-head l r as′ k f h, still-stage-3 k (λ t p. h t (omega arith)), still-stage-3 f (λ t p. h t (omega arith)),
-      still-replacements l as′ (λ t p. h t (omega arith)), still-without ReplaceNode l as′ (λ t p. h t (omega arith)))
+  still-stage-3 (node r as′ k f) h = rw (
+    still-head l r as′ k f h,
+    still-stage-3 k (λ t p. h t (omega arith)),
+    still-stage-3 f (λ t p. h t (omega arith)),
+    still-replacements l as′ (λ t p. h t (omega arith)),
+    still-without ReplaceNode l as′ (λ t p. h t (omega arith)),
+  )
 
   still-stage-4 : (g : Forest) → Still l g → stage-4-replaced-content l g ≡ g
   still-stage-4 nil h = refl
@@ -61,8 +66,12 @@ module _ (l : List Change) where
 
   still-stage-5 : (g : Forest) → Still l g → stage-5-deletions l g ≡ g
   still-stage-5 nil h = refl
-  still-stage-5 (node r as′ k f) h = rw (still-head l r as′ k f h, still-stage-5 k (λ t p. h t (omega arith)), still-stage-5 f (λ t p. h t (omega arith)),
-      still-without Delete l as′ (λ t p. h t (omega arith)))
+  still-stage-5 (node r as′ k f) h = rw (
+    still-head l r as′ k f h,
+    still-stage-5 k (λ t p. h t (omega arith)),
+    still-stage-5 f (λ t p. h t (omega arith)),
+    still-without Delete l as′ (λ t p. h t (omega arith)),
+  )
 
   stage-2-⊕ : (f g : Forest) → stage-2-before-after-first-last l (f ⊕ g) ≡ stage-2-before-after-first-last l f ⊕ stage-2-before-after-first-last l g
   stage-2-⊕ nil g = refl
@@ -156,8 +165,8 @@ without-insert c ops x [] q h = rw q
 without-insert c ops x (y ∷ l) q h = go (ltb (x .id) (y .id)) (is-some (first-of c (changes-on (y .id) ops))) refl refl (without-insert c ops x l q (h .1))
   where
     go : (b s : Bool) → ltb (x .id) (y .id) ≡ b → is-some (first-of c (changes-on (y .id) ops)) ≡ s
-      → without-change c ops (insert-label x l) ≡ insert-label x (without-change c ops l)
-      → without-change c ops (insert-label x (y ∷ l)) ≡ insert-label x (without-change c ops (y ∷ l))
+        → without-change c ops (insert-label x l) ≡ insert-label x (without-change c ops l)
+        → without-change c ops (insert-label x (y ∷ l)) ≡ insert-label x (without-change c ops (y ∷ l))
     go true true e s k = rw (e, s, q) (sym (insert-under x (y .id) (without-change c ops l) (ltb-true (x .id) (y .id) e) (over-without (y .id) c ops l (h .0))))
     go true false e s k = rw (s, e, q) (rw s)
     go false true e s k = rw (e, s) k
@@ -200,8 +209,8 @@ without-edited ops [] = refl
 without-edited ops (r ∷ l) = go (first-of ReplaceNode (changes-on (r .id) ops)) (is-some (first-of Delete (changes-on (r .id) ops))) refl refl (without-edited ops l)
   where
     go : (o : Option Change) (b : Bool) → first-of ReplaceNode (changes-on (r .id) ops) ≡ o → is-some (first-of Delete (changes-on (r .id) ops)) ≡ b
-      → without-change Delete ops (without-change ReplaceNode ops (edited-labels ops l)) ≡ kept-labels (mark-labels ops l)
-      → without-change Delete ops (without-change ReplaceNode ops (edited-labels ops (r ∷ l))) ≡ kept-labels (mark-labels ops (r ∷ l))
+        → without-change Delete ops (without-change ReplaceNode ops (edited-labels ops l)) ≡ kept-labels (mark-labels ops l)
+        → without-change Delete ops (without-change ReplaceNode ops (edited-labels ops (r ∷ l))) ≡ kept-labels (mark-labels ops (r ∷ l))
     go (Some o) b e s k = rw e k
     go None true e s k = rw (e, s) k
     go None false e s k = rw (e, s, k)
@@ -218,14 +227,16 @@ attributes-after-stages : (ops : List Change) (x l : List Label) → StillLabels
     → without-change Delete ops (after-stage-3 ops x l) ≡ insert-labels (replacing-labels (mark-labels ops l) ++ x) (kept-labels (mark-labels ops l))
 attributes-after-stages ops x l sx sn h =
     rw (replacements-insert-labels ops x (edited-labels ops l) sx, replacements-edited ops l, without-insert-labels ReplaceNode ops x (edited-labels ops l) sx (rising-edited ops l h))
-      (without-insert-labels Delete ops new (insert-labels x kept) sn (rising-insert-labels x kept rising)
-        ∙ ap (λ z. insert-labels new z) (without-insert-labels Delete ops x kept sx rising ∙ ap (λ z. insert-labels x z) (without-edited ops l))
-        ∙ sym (insert-labels-++ new x (kept-labels (mark-labels ops l))))
+    (without-insert-labels Delete ops new (insert-labels x kept) sn (rising-insert-labels x kept rising)
+    ∙ ap (λ z. insert-labels new z) (without-insert-labels Delete ops x kept sx rising ∙ ap (λ z. insert-labels x z) (without-edited ops l))
+    ∙ sym (insert-labels-++ new x (kept-labels (mark-labels ops l))))
   where
     new : List Label
     new = replacing-labels (mark-labels ops l)
+
     kept : List Label
     kept = without-change ReplaceNode ops (edited-labels ops l)
+
     rising : Rising kept
     rising = rising-without ReplaceNode ops (edited-labels ops l) (rising-edited ops l h)
 
@@ -246,34 +257,40 @@ module _ (l : List Change) (fresh : Fresh l) where
   still-new : (rs : List Label) → StillLabels l (replacing-labels (mark-labels l rs))
   still-new [] t p = absurd (omega arith)
   still-new (r ∷ rs) t p = elim (cases-lt 0 (count-labels t (replacing-labels (mark-labels l rs)))) [
-        inl q ↦ still-new rs t (omega arith)
-      | inr q ↦ still-roots (or-else (nodes-given (first-of ReplaceNode (changes-on (r .id) l))) nil) (still-first ReplaceNode (r .id)) t
-          (omega (arith, count-labels-++ t (root-labels (or-else (nodes-given (first-of ReplaceNode (changes-on (r .id) l))) nil)) (replacing-labels (mark-labels l rs)))) ]
+    | inl q ↦ still-new rs t (omega arith)
+    | inr q ↦ still-roots (or-else (nodes-given (first-of ReplaceNode (changes-on (r .id) l))) nil) (still-first ReplaceNode (r .id)) t
+        (omega (arith, count-labels-++ t (root-labels (or-else (nodes-given (first-of ReplaceNode (changes-on (r .id) l))) nil)) (replacing-labels (mark-labels l rs))))
+  ]
 
   pub stages : (d : Forest) → Level d → apply l d ≡ all-stages-at-once (mark l d)
   unfolding apply
   stages nil h = refl
   stages (node r as′ k f) h =
       go (still-joined InsertBefore (r .id)) (still-joined InsertAfter (r .id)) (still-joined InsertFirst (r .id)) (still-joined InsertInto (r .id))
-        (still-joined InsertLast (r .id)) (stages k (h .1)) (stages f (h .2))
+      (still-joined InsertLast (r .id)) (stages k (h .1)) (stages f (h .2))
     where
       here : List Change
       here = changes-on (r .id) l
+
       a : NodeChanges
       a = node-changes here
+
       come : List Label
       come = root-labels (joined-nodes InsertAttributes here)
+
       below : Forest
       below = stage-3-replaced-nodes l (stage-2-before-after-first-last l (stage-1-into-attributes-values-names l k))
+
       labels : List Label
       labels = insert-labels (replacing-labels (mark-labels l as′) ++ come) (kept-labels (mark-labels l as′))
+
       -- the node itself, by what is done to it: replaced, deleted, its content replaced, or none of these
       body : (by deleted new : Option Change) → first-of ReplaceNode here ≡ by → first-of Delete here ≡ deleted → first-of ReplaceContent here ≡ new
-        → Still l (or-else (nodes-given (first-of ReplaceNode here)) nil) → Still l (or-else (nodes-given (first-of ReplaceContent here)) nil)
-        → Still l (joined-nodes InsertFirst here) → Still l (joined-nodes InsertInto here) → Still l (joined-nodes InsertLast here)
-        → apply l k ≡ all-stages-at-once (mark l k) → without-change Delete l (after-stage-3 l come as′) ≡ labels
-        → stage-5-deletions l (stage-4-replaced-content l (or-else (nodes-given (first-of ReplaceNode here))
-            (node (edited l r) (after-stage-3 l come as′) (joined-nodes InsertFirst here ⊕ (joined-nodes InsertInto here ⊕ below) ⊕ joined-nodes InsertLast here) nil)))
+          → Still l (or-else (nodes-given (first-of ReplaceNode here)) nil) → Still l (or-else (nodes-given (first-of ReplaceContent here)) nil)
+          → Still l (joined-nodes InsertFirst here) → Still l (joined-nodes InsertInto here) → Still l (joined-nodes InsertLast here)
+          → apply l k ≡ all-stages-at-once (mark l k) → without-change Delete l (after-stage-3 l come as′) ≡ labels
+          → stage-5-deletions l (stage-4-replaced-content l (or-else (nodes-given (first-of ReplaceNode here))
+          (node (edited l r) (after-stage-3 l come as′) (joined-nodes InsertFirst here ⊕ (joined-nodes InsertInto here ⊕ below) ⊕ joined-nodes InsertLast here) nil)))
           ≡ cond (removed a) (or-else (nodes-given (first-of ReplaceNode here)) nil) (node (relabelled r a) labels (children-after a (all-stages-at-once (mark l k))) nil)
       body (Some o) deleted new e-by e-deleted e-new h-by h-new h-first h-into h-last hk ha =
           let w : Still l (o .nodes) = rw e-by at h-by in rw (e-by, still-stage-4 l (o .nodes) w, still-stage-5 l (o .nodes) w)
@@ -282,11 +299,15 @@ module _ (l : List Change) (fresh : Fresh l) where
           let w : Still l (o .nodes) = rw e-new at h-new in rw (e-by, e-deleted, e-new, ha, still-stage-5 l (o .nodes) w)
       body None None None e-by e-deleted e-new h-by h-new h-first h-into h-last hk ha =
           rw (e-by, e-deleted, e-new, ha) (simp (stage-4-⊕ l, stage-5-⊕ l, still-stage-4 l, still-stage-5 l, hk, ⊕-assoc))
+
       go : Still l (joined-nodes InsertBefore here) → Still l (joined-nodes InsertAfter here)
-        → Still l (joined-nodes InsertFirst here) → Still l (joined-nodes InsertInto here) → Still l (joined-nodes InsertLast here)
-        → apply l k ≡ all-stages-at-once (mark l k) → apply l f ≡ all-stages-at-once (mark l f) → apply l (node r as′ k f) ≡ all-stages-at-once (mark l (node r as′ k f))
+          → Still l (joined-nodes InsertFirst here) → Still l (joined-nodes InsertInto here) → Still l (joined-nodes InsertLast here)
+          → apply l k ≡ all-stages-at-once (mark l k) → apply l f ≡ all-stages-at-once (mark l f) → apply l (node r as′ k f) ≡ all-stages-at-once (mark l (node r as′ k f))
       go h-before h-after h-first h-into h-last hk hf =
           simp (stage-2-⊕ l, stage-3-⊕ l, stage-4-⊕ l, stage-5-⊕ l, still-stage-2 l, still-stage-3 l, still-stage-4 l, still-stage-5 l)
-            (rw (body (first-of ReplaceNode here) (first-of Delete here) (first-of ReplaceContent here) refl refl refl (still-first ReplaceNode (r .id)) (still-first ReplaceContent (r .id))
-                  h-first h-into h-last hk
-                  (attributes-after-stages l come as′ (still-roots (joined-nodes InsertAttributes here) (still-joined InsertAttributes (r .id))) (still-new as′) (h .0)), hf))
+          (rw (
+            body (first-of ReplaceNode here) (first-of Delete here) (first-of ReplaceContent here) refl refl refl (still-first ReplaceNode (r .id)) (still-first ReplaceContent (r .id))
+                h-first h-into h-last hk
+                (attributes-after-stages l come as′ (still-roots (joined-nodes InsertAttributes here) (still-joined InsertAttributes (r .id))) (still-new as′) (h .0)),
+            hf,
+          ))

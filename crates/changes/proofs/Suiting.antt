@@ -95,14 +95,18 @@ name-kind Text n h = absurd (some-none n h)
 module _ (d : Forest) (t : ℕ) (x : Found) (e : find t d ≡ Some x) (pos : ltb 0 t ≡ true) (there : stands-in t d ≡ true) where
   -- whether the root's changes spare it
   here : (o : Change) → o .target ≡ t → fields-suit-code (o .code) (o .name) (o .value) ≡ true → SoundRoots (o .nodes) → nodes-suit (o .code) (o .nodes) ≡ true
-    → kind-suits (o .code) (x .kind) (o .nodes) ≡ true → (spares-root (o .code) || not (root-is t d)) ≡ true → FitsHere d o
+      → kind-suits (o .code) (x .kind) (o .nodes) ≡ true → (spares-root (o .code) || not (root-is t d)) ≡ true → FitsHere d o
   here o q f s n k w = record {
-    formed = rw (q, pos) f; sound = s; nodes-fit = n; present = rw q there;
-    target-fits = rw (q, e) (and-from (kind-suits (o .code) (x .kind) (o .nodes)) (spares-root (o .code) || not (root-is t d)) k w) }
+    formed = rw (q, pos) f;
+    sound = s;
+    nodes-fit = n;
+    present = rw q there;
+    target-fits = rw (q, e) (and-from (kind-suits (o .code) (x .kind) (o .nodes)) (spares-root (o .code) || not (root-is t d)) k w);
+  }
 
   insertion-fits : (c : Code) (f : Forest) → fields-suit-code c 0 0 ≡ true
-    → (is-empty f ≡ false → SoundRoots f × (nodes-suit c f ≡ true) × (kind-suits c (x .kind) f ≡ true) × ((spares-root c || not (root-is t d)) ≡ true))
-    → Each (FitsHere d) (insertion t c f)
+      → (is-empty f ≡ false → SoundRoots f × (nodes-suit c f ≡ true) × (kind-suits c (x .kind) f ≡ true) × ((spares-root c || not (root-is t d)) ≡ true))
+      → Each (FitsHere d) (insertion t c f)
   insertion-fits c nil w h = tt
   insertion-fits c (node r as′ k f) w h =
       let u = h refl in
@@ -122,27 +126,27 @@ module _ (d : Forest) (t : ℕ) (x : Found) (e : find t d ≡ Some x) (pos : ltb
   module _ (a : NodeChanges) (h : Fitting (x .kind) a) (stays : root-is t d ≡ true → RootStays a) where
     before-fits : Each (FitsHere d) (insertion t InsertBefore (a .before))
     before-fits = insertion-fits InsertBefore (a .before) refl (λ q. let u = beside-given (x .kind) (a .before) (h .before) q in
-      (u .0, some-nodes (a .before) (no-attribute-roots (a .before)) q (u .1), u .2, not-root (λ w. true≢false (rw (stays w .0) at q))))
+        (u .0, some-nodes (a .before) (no-attribute-roots (a .before)) q (u .1), u .2, not-root (λ w. true≢false (rw (stays w .0) at q))))
 
     after-fits : Each (FitsHere d) (insertion t InsertAfter (a .after))
     after-fits = insertion-fits InsertAfter (a .after) refl (λ q. let u = beside-given (x .kind) (a .after) (h .after) q in
-      (u .0, some-nodes (a .after) (no-attribute-roots (a .after)) q (u .1), u .2, not-root (λ w. true≢false (rw (stays w .1) at q))))
+        (u .0, some-nodes (a .after) (no-attribute-roots (a .after)) q (u .1), u .2, not-root (λ w. true≢false (rw (stays w .1) at q))))
 
     first-fits-here : Each (FitsHere d) (insertion t InsertFirst (a .first))
     first-fits-here = insertion-fits InsertFirst (a .first) refl (λ q. let u = inside-given (x .kind) (a .first) (h .first) q in
-      (u .0, some-nodes (a .first) (no-attribute-roots (a .first)) q (u .1), u .2, refl))
+        (u .0, some-nodes (a .first) (no-attribute-roots (a .first)) q (u .1), u .2, refl))
 
     into-fits : Each (FitsHere d) (insertion t InsertInto (a .into))
     into-fits = insertion-fits InsertInto (a .into) refl (λ q. let u = inside-given (x .kind) (a .into) (h .into) q in
-      (u .0, some-nodes (a .into) (no-attribute-roots (a .into)) q (u .1), u .2, refl))
+        (u .0, some-nodes (a .into) (no-attribute-roots (a .into)) q (u .1), u .2, refl))
 
     last-fits : Each (FitsHere d) (insertion t InsertLast (a .last))
     last-fits = insertion-fits InsertLast (a .last) refl (λ q. let u = inside-given (x .kind) (a .last) (h .last) q in
-      (u .0, some-nodes (a .last) (no-attribute-roots (a .last)) q (u .1), u .2, refl))
+        (u .0, some-nodes (a .last) (no-attribute-roots (a .last)) q (u .1), u .2, refl))
 
     attributes-fit : Each (FitsHere d) (insertion t InsertAttributes (a .attributes))
     attributes-fit = insertion-fits InsertAttributes (a .attributes) refl (λ q. let u = among-given (x .kind) (a .attributes) (h .attributes) q in
-      (u .0, some-nodes (a .attributes) (attribute-roots (a .attributes)) q (u .1), u .2, refl))
+        (u .0, some-nodes (a .attributes) (attribute-roots (a .attributes)) q (u .1), u .2, refl))
 
     deletion-fits-here : (b : Bool) → a .deleted ≡ b → Each (FitsHere d) (deletion-of t b)
     deletion-fits-here false e = tt
@@ -189,32 +193,32 @@ Within d counts found = (t : ℕ) → 1 ≤ counts t → (find t d ≡ found t) 
 
 module _ (d : Forest) where
   labels-fit-here : (p : ℕ) (l : List MarkedLabel) → Attributes (unmark-labels l) → FitLabels l → ((t : ℕ) → count-labels t (unmark-labels l) ≤ 1)
-    → Within d (λ t. count-labels t (unmark-labels l)) (λ t. find-label p t (unmark-labels l)) → Each (FitsHere d) (label-changes-in-order l)
+      → Within d (λ t. count-labels t (unmark-labels l)) (λ t. find-label p t (unmark-labels l)) → Each (FitsHere d) (label-changes-in-order l)
   labels-fit-here p [] s h c w = tt
   labels-fit-here p (m ∷ l) s h c w =
       let u = w (m .label .id) (omega (arith, one-refl (m .label .id))) in
       each-++ (FitsHere d) (changes-by-code (m .label .id) (m .changes)) _
-        (changes-fit d (m .label .id) (record { kind = m .label .kind; element = p }) (u .0 ∙ find-label-itself p (m .label) (unmark-labels l)) (formed-above (m .label) (s .1))
-          (lt-ltb 0 (count (m .label .id) d) (u .1)) (m .changes) (rw (s .0) (h .0)) (λ q. absurd (true≢false (sym q ∙ u .2))))
-        (labels-fit-here p l (s .2) (h .1) (λ t. omega (arith, c t))
-          (λ t q. let v = w t (omega arith) in (v .0 ∙ find-label-behind p t (m .label) (unmark-labels l) (c t) q, v .1, v .2)))
+      (changes-fit d (m .label .id) (record { kind = m .label .kind; element = p }) (u .0 ∙ find-label-itself p (m .label) (unmark-labels l)) (formed-above (m .label) (s .1))
+      (lt-ltb 0 (count (m .label .id) d) (u .1)) (m .changes) (rw (s .0) (h .0)) (λ q. absurd (true≢false (sym q ∙ u .2))))
+      (labels-fit-here p l (s .2) (h .1) (λ t. omega (arith, c t))
+      (λ t q. let v = w t (omega arith) in (v .0 ∙ find-label-behind p t (m .label) (unmark-labels l) (c t) q, v .1, v .2)))
 
   pub marks-fit-here : (m : MarkedForest) → Sound (unmark m) → Fit m → ((t : ℕ) → count t (unmark m) ≤ 1)
-    → Within d (λ t. count t (unmark m)) (λ t. find t (unmark m)) → Each (FitsHere d) (changes-in-order m)
+      → Within d (λ t. count t (unmark m)) (λ t. find t (unmark m)) → Each (FitsHere d) (changes-in-order m)
   marks-fit-here no-marks s h c w = tt
   marks-fit-here (marked r a as′ k f) s h c w =
       let u = w (r .id) (omega (arith, one-refl (r .id))) in
       each-++ (FitsHere d) (changes-by-code (r .id) a) _
-        (changes-fit d (r .id) (record { kind = r .kind; element = r .id }) (u .0 ∙ find-itself r (unmark-labels as′) (unmark k) (unmark f)) (formed-above r (s .0))
-          (lt-ltb 0 (count (r .id) d) (u .1)) a (h .0) (λ q. absurd (true≢false (sym q ∙ u .2))))
-        (each-++ (FitsHere d) (label-changes-in-order as′) _
-          (labels-fit-here (r .id) as′ (s .2 .0) (h .1) (λ t. omega (arith, c t))
-            (λ t q. let v = w t (omega arith) in (v .0 ∙ find-attribute r (unmark-labels as′) (unmark k) (unmark f) t (c t) q, v .1, v .2)))
-          (each-++ (FitsHere d) (changes-in-order k) _
-            (marks-fit-here k (s .3) (h .2) (λ t. omega (arith, c t))
-              (λ t q. let v = w t (omega arith) in (v .0 ∙ find-below r (unmark-labels as′) (unmark k) (unmark f) t (c t) q, v .1, v .2)))
-            (marks-fit-here f (s .4) (h .3) (λ t. omega (arith, c t))
-              (λ t q. let v = w t (omega arith) in (v .0 ∙ find-behind r (unmark-labels as′) (unmark k) (unmark f) t (c t) q, v .1, v .2)))))
+      (changes-fit d (r .id) (record { kind = r .kind; element = r .id }) (u .0 ∙ find-itself r (unmark-labels as′) (unmark k) (unmark f)) (formed-above r (s .0))
+      (lt-ltb 0 (count (r .id) d) (u .1)) a (h .0) (λ q. absurd (true≢false (sym q ∙ u .2))))
+      (each-++ (FitsHere d) (label-changes-in-order as′) _
+      (labels-fit-here (r .id) as′ (s .2 .0) (h .1) (λ t. omega (arith, c t))
+      (λ t q. let v = w t (omega arith) in (v .0 ∙ find-attribute r (unmark-labels as′) (unmark k) (unmark f) t (c t) q, v .1, v .2)))
+      (each-++ (FitsHere d) (changes-in-order k) _
+      (marks-fit-here k (s .3) (h .2) (λ t. omega (arith, c t))
+      (λ t q. let v = w t (omega arith) in (v .0 ∙ find-below r (unmark-labels as′) (unmark k) (unmark f) t (c t) q, v .1, v .2)))
+      (marks-fit-here f (s .4) (h .3) (λ t. omega (arith, c t))
+      (λ t q. let v = w t (omega arith) in (v .0 ∙ find-behind r (unmark-labels as′) (unmark k) (unmark f) t (c t) q, v .1, v .2)))))
 
 -- a document, whose root stays
 abbrev pub RootKept : MarkedForest → Type 0
@@ -225,16 +229,16 @@ pub document-fits : (m : MarkedForest) → Sound (unmark m) → ((t : ℕ) → c
 document-fits no-marks s c h q = tt
 document-fits (marked r a as′ k f) s c h q =
     each-++ (FitsHere d) (changes-by-code (r .id) a) _
-      (changes-fit d (r .id) (record { kind = r .kind; element = r .id }) (find-itself r (unmark-labels as′) (unmark k) (unmark f)) (formed-above r (s .0))
-        (lt-ltb 0 (count (r .id) d) (omega (arith, one-refl (r .id)))) a (h .0) (λ e. q))
-      (each-++ (FitsHere d) (label-changes-in-order as′) _
-        (labels-fit-here d (r .id) as′ (s .2 .0) (h .1) (λ t. omega (arith, c t))
-          (λ t p. (find-attribute r (unmark-labels as′) (unmark k) (unmark f) t (c t) p, omega arith, one-zero (eqb (r .id) t) (omega (arith, c t)))))
-        (each-++ (FitsHere d) (changes-in-order k) _
-          (marks-fit-here d k (s .3) (h .2) (λ t. omega (arith, c t))
-            (λ t p. (find-below r (unmark-labels as′) (unmark k) (unmark f) t (c t) p, omega arith, one-zero (eqb (r .id) t) (omega (arith, c t)))))
-          (marks-fit-here d f (s .4) (h .3) (λ t. omega (arith, c t))
-            (λ t p. (find-behind r (unmark-labels as′) (unmark k) (unmark f) t (c t) p, omega arith, one-zero (eqb (r .id) t) (omega (arith, c t)))))))
+    (changes-fit d (r .id) (record { kind = r .kind; element = r .id }) (find-itself r (unmark-labels as′) (unmark k) (unmark f)) (formed-above r (s .0))
+    (lt-ltb 0 (count (r .id) d) (omega (arith, one-refl (r .id)))) a (h .0) (λ e. q))
+    (each-++ (FitsHere d) (label-changes-in-order as′) _
+    (labels-fit-here d (r .id) as′ (s .2 .0) (h .1) (λ t. omega (arith, c t))
+    (λ t p. (find-attribute r (unmark-labels as′) (unmark k) (unmark f) t (c t) p, omega arith, one-zero (eqb (r .id) t) (omega (arith, c t)))))
+    (each-++ (FitsHere d) (changes-in-order k) _
+    (marks-fit-here d k (s .3) (h .2) (λ t. omega (arith, c t))
+    (λ t p. (find-below r (unmark-labels as′) (unmark k) (unmark f) t (c t) p, omega arith, one-zero (eqb (r .id) t) (omega (arith, c t)))))
+    (marks-fit-here d f (s .4) (h .3) (λ t. omega (arith, c t))
+    (λ t p. (find-behind r (unmark-labels as′) (unmark k) (unmark f) t (c t) p, omega arith, one-zero (eqb (r .id) t) (omega (arith, c t)))))))
   where
     d : Forest
     d = node r (unmark-labels as′) (unmark k) (unmark f)
@@ -288,29 +292,51 @@ one-code b Rename = omega arith
 
 by-code-pair : (t : ℕ) (c : Code) (s : ℕ) (a : NodeChanges) → total (pair t c) (changes-by-code s a) ≤ one (eqb s t)
 by-code-pair t c s a =
-    simp total-++ (omega (arith, insertion-pair t c s InsertBefore (a .before), insertion-pair t c s InsertAfter (a .after), insertion-pair t c s InsertFirst (a .first),
-      insertion-pair t c s InsertInto (a .into), insertion-pair t c s InsertLast (a .last), insertion-pair t c s InsertAttributes (a .attributes), deletion-pair t c s (a .deleted),
-      replacement-pair t c s ReplaceNode (a .replaced), value-pair t c s (a .revalued), replacement-pair t c s ReplaceContent (a .content), name-pair t c s (a .renamed),
-      one-code (eqb s t) c))
+    simp total-++ (omega (
+      arith,
+      insertion-pair t c s InsertBefore (a .before),
+      insertion-pair t c s InsertAfter (a .after),
+      insertion-pair t c s InsertFirst (a .first),
+      insertion-pair t c s InsertInto (a .into),
+      insertion-pair t c s InsertLast (a .last),
+      insertion-pair t c s InsertAttributes (a .attributes),
+      deletion-pair t c s (a .deleted),
+      replacement-pair t c s ReplaceNode (a .replaced),
+      value-pair t c s (a .revalued),
+      replacement-pair t c s ReplaceContent (a .content),
+      name-pair t c s (a .renamed),
+      one-code (eqb s t) c,
+    ))
 
 labels-pair : (t : ℕ) (c : Code) (l : List MarkedLabel) → total (pair t c) (label-changes-in-order l) ≤ count-labels t (unmark-labels l)
 labels-pair t c [] = omega arith
-labels-pair t c (m ∷ l) = omega (arith, total-++ (pair t c) (changes-by-code (m .label .id) (m .changes)) (label-changes-in-order l),
-    by-code-pair t c (m .label .id) (m .changes), labels-pair t c l)
+labels-pair t c (m ∷ l) = omega (
+  arith,
+  total-++ (pair t c) (changes-by-code (m .label .id) (m .changes)) (label-changes-in-order l),
+  by-code-pair t c (m .label .id) (m .changes),
+  labels-pair t c l,
+)
 
 pub marks-pair : (t : ℕ) (c : Code) (m : MarkedForest) → total (pair t c) (changes-in-order m) ≤ count t (unmark m)
 marks-pair t c no-marks = omega arith
 marks-pair t c (marked r a as′ k f) =
-    omega (arith, total-++ (pair t c) (changes-by-code (r .id) a) (label-changes-in-order as′ ++ (changes-in-order k ++ changes-in-order f)),
-      total-++ (pair t c) (label-changes-in-order as′) (changes-in-order k ++ changes-in-order f), total-++ (pair t c) (changes-in-order k) (changes-in-order f),
-      by-code-pair t c (r .id) a, labels-pair t c as′, marks-pair t c k, marks-pair t c f)
+    omega (
+      arith,
+      total-++ (pair t c) (changes-by-code (r .id) a) (label-changes-in-order as′ ++ (changes-in-order k ++ changes-in-order f)),
+      total-++ (pair t c) (label-changes-in-order as′) (changes-in-order k ++ changes-in-order f),
+      total-++ (pair t c) (changes-in-order k) (changes-in-order f),
+      by-code-pair t c (r .id) a,
+      labels-pair t c as′,
+      marks-pair t c k,
+      marks-pair t c f,
+    )
 
 found-counts : (t : ℕ) (c : Code) (e : List Change) → is-some (first-of c (changes-on t e)) ≡ true → 1 ≤ total (pair t c) e
 found-counts t c [] h = absurd (true≢false (sym h))
 found-counts t c (o ∷ e) h = go (eqb (o .target) t) (same-code (o .code) c) refl refl (found-counts t c e)
   where
     go : (a b : Bool) → eqb (o .target) t ≡ a → same-code (o .code) c ≡ b → (is-some (first-of c (changes-on t e)) ≡ true → 1 ≤ total (pair t c) e)
-      → 1 ≤ total (pair t c) (o ∷ e)
+        → 1 ≤ total (pair t c) (o ∷ e)
     go true true p q k = rw (q, p) (omega arith)
     go true false p q k = let u : 1 ≤ total (pair t c) e = k (rw (p, q) at h) in omega arith
     go false b p q k = let u : 1 ≤ total (pair t c) e = k (rw p at h) in omega arith
@@ -321,8 +347,10 @@ once-passes e n (o ∷ l) h = rw none (once-passes (o ∷ e) (n + 1) l (λ t c. 
   where
     own : pair (o .target) (o .code) o ≡ 1
     own = rw (eq-eqb (code-number (o .code)) (code-number (o .code)) refl, eq-eqb (o .target) (o .target) refl)
+
     unseen : (b : Bool) → is-some (first-of (o .code) (changes-on (o .target) e)) ≡ b → is-some (first-of (o .code) (changes-on (o .target) e)) ≡ false
     unseen false q = q
     unseen true q = absurd (omega (arith, found-counts (o .target) (o .code) e q, h (o .target) (o .code), own))
+
     none : second-of-code e o ≡ false
     none = and-right (only-once (o .code)) (is-some (first-of (o .code) (changes-on (o .target) e))) (unseen (is-some (first-of (o .code) (changes-on (o .target) e))) refl)

@@ -83,7 +83,7 @@ part-back : (r : Label) (as′ : List Label) (k f : Forest) → SoundRoots (node
 part-back r as′ k f s c = go (r .kind) refl (s .1)
   where
     go : (κ : Kind) → r .kind ≡ κ → RootHolds κ as′ k → (document-of (part-of r as′ k) ≡ node r as′ k nil)
-      × (part-in-order (r .kind) (part-of r as′ k) (attribute-rows (r .id) as′ ++ rows (r .id) k) ≡ true)
+        × (part-in-order (r .kind) (part-of r as′ k) (attribute-rows (r .id) as′ ++ rows (r .id) k) ≡ true)
     go Element e h =
         let w = tree-well-formed r as′ k f e s c in
         let q = tree-rows r as′ k in
@@ -92,9 +92,9 @@ part-back r as′ k f s c = go (r .kind) refl (s .1)
         (rw q at (listing-gives-document (node r as′ k nil) w), in-order order names)
       where
         in-order : out-of-order (part-of r as′ k) ≡ None → repeat-from name-key [] 0 (part-of r as′ k) ≡ None
-          → part-in-order (r .kind) (part-of r as′ k) (attribute-rows (r .id) as′ ++ rows (r .id) k) ≡ true
+            → part-in-order (r .kind) (part-of r as′ k) (attribute-rows (r .id) as′ ++ rows (r .id) k) ≡ true
         in-order a b = ap (λ κ. part-in-order κ (part-of r as′ k) (attribute-rows (r .id) as′ ++ rows (r .id) k)) e
-          ∙ ap₂ (λ (x y : Option ℕ). not (is-some x) && not (is-some y)) a b
+            ∙ ap₂ (λ (x y : Option ℕ). not (is-some x) && not (is-some y)) a b
     go Attribute e h = let z : is-element (r .kind) ≡ false = rw e in rw (h .0, h .1) (one-row r z, rw e)
     go Text e h = let z : is-element (r .kind) ≡ false = rw e in rw (h .0, h .1) (one-row r z, rw e)
 
@@ -106,13 +106,16 @@ trees-back (node r as′ k f) s c = go (trees-back f (s .4) (λ t. omega (arith,
   where
     below : List Node
     below = attribute-rows (r .id) as′ ++ rows (r .id) k
+
     nonzero : eqb (r .id) 0 ≡ false
     nonzero = above-not-zero (r .id) (formed-above r (s .0))
+
     split : parts (attribute-rows (r .id) as′ ++ (rows (r .id) k ++ rows 0 f)) ≡ (below ++ parts (rows 0 f) .0, parts (rows 0 f) .1)
     split = ap parts (sym (append-assoc (attribute-rows (r .id) as′) (rows (r .id) k) (rows 0 f)))
-      ∙ parts-inner below (rows 0 f) (inner-++ (attribute-rows (r .id) as′) (rows (r .id) k) (inner-attributes (r .id) as′ nonzero) (inner-rows (r .id) k nonzero (s .3)))
+        ∙ parts-inner below (rows 0 f) (inner-++ (attribute-rows (r .id) as′) (rows (r .id) k) (inner-attributes (r .id) as′ nonzero) (inner-rows (r .id) k nonzero (s .3)))
+
     go : (parts (rows 0 f) .0 ≡ []) × (trees-of (rows 0 f) ≡ f) × (parts-are-trees (parts (rows 0 f) .1) ≡ true)
-      → (parts (rows 0 (node r as′ k f)) .0 ≡ []) × (trees-of (rows 0 (node r as′ k f)) ≡ node r as′ k f) × (parts-are-trees (parts (rows 0 (node r as′ k f)) .1) ≡ true)
+        → (parts (rows 0 (node r as′ k f)) .0 ≡ []) × (trees-of (rows 0 (node r as′ k f)) ≡ node r as′ k f) × (parts-are-trees (parts (rows 0 (node r as′ k f)) .1) ≡ true)
     go h =
         let u = part-back r as′ k f s c in
         rw (split, h .0, append-nil below) (refl, rw (u .0, h .1), rw (u .1) (h .2))
@@ -128,8 +131,8 @@ parts-whole [] = refl
 parts-whole (x ∷ xs) = go (eqb (x .parent) 0) (parts-whole xs)
   where
     go : (b : Bool) → parts xs .0 ++ concat (parts xs .1) ≡ xs
-      → (cond {A = List Node × List (List Node)} b ([], (x ∷ parts xs .0) ∷ parts xs .1) (x ∷ parts xs .0, parts xs .1)) .0
-          ++ concat ((cond {A = List Node × List (List Node)} b ([], (x ∷ parts xs .0) ∷ parts xs .1) (x ∷ parts xs .0, parts xs .1)) .1) ≡ x ∷ xs
+        → (cond {A = List Node × List (List Node)} b ([], (x ∷ parts xs .0) ∷ parts xs .1) (x ∷ parts xs .0, parts xs .1)) .0
+        ++ concat ((cond {A = List Node × List (List Node)} b ([], (x ∷ parts xs .0) ∷ parts xs .1) (x ∷ parts xs .0, parts xs .1)) .1) ≡ x ∷ xs
     go true h = ap (λ z. x ∷ z) h
     go false h = ap (λ z. x ∷ z) h
 
@@ -143,7 +146,7 @@ parts-rooted [] = tt
 parts-rooted (x ∷ xs) = go (eqb (x .parent) 0) refl (parts-rooted xs)
   where
     go : (b : Bool) → eqb (x .parent) 0 ≡ b → Rooted (parts xs .1)
-      → Rooted ((cond {A = List Node × List (List Node)} b ([], (x ∷ parts xs .0) ∷ parts xs .1) (x ∷ parts xs .0, parts xs .1)) .1)
+        → Rooted ((cond {A = List Node × List (List Node)} b ([], (x ∷ parts xs .0) ∷ parts xs .1) (x ∷ parts xs .0, parts xs .1)) .1)
     go true e h = (eqb-true (x .parent) 0 e, h)
     go false e h = h
 
@@ -151,9 +154,9 @@ pub rows-⊕ : (p : ℕ) (f g : Forest) → rows p (f ⊕ g) ≡ rows p f ++ row
 rows-⊕ p nil g = refl
 rows-⊕ p (node r as′ k f) g =
     ap (λ z. row p r ∷ z)
-      (ap (λ z. attribute-rows (r .id) as′ ++ (rows (r .id) k ++ z)) (rows-⊕ p f g)
-      ∙ sym (append-assoc (attribute-rows (r .id) as′) (rows (r .id) k ++ rows p f) (rows p g)
-          ∙ ap (λ z. attribute-rows (r .id) as′ ++ z) (append-assoc (rows (r .id) k) (rows p f) (rows p g))))
+    (ap (λ z. attribute-rows (r .id) as′ ++ (rows (r .id) k ++ z)) (rows-⊕ p f g)
+    ∙ sym (append-assoc (attribute-rows (r .id) as′) (rows (r .id) k ++ rows p f) (rows p g)
+    ∙ ap (λ z. attribute-rows (r .id) as′ ++ z) (append-assoc (rows (r .id) k) (rows p f) (rows p g))))
 
 pub sound-roots-⊕ : (f g : Forest) → SoundRoots f → SoundRoots g → SoundRoots (f ⊕ g)
 sound-roots-⊕ nil g p q = q
@@ -208,6 +211,7 @@ part-forth x ys e f c h = go (x .kind) refl
   where
     alone : (κ : Kind) → x .kind ≡ κ → is-element κ ≡ false → eqb (length ys) 0 ≡ true → SoundRoots (document-of (x ∷ ys)) × (rows 0 (document-of (x ∷ ys)) ≡ x ∷ ys)
     alone κ q w b = rw (nil-from-length ys (eqb-true (length ys) 0 b)) (lone-part x e (ap is-element q ∙ w) (and-parts (formed-node x) (all-formed ys) f .0))
+
     go : (κ : Kind) → x .kind ≡ κ → SoundRoots (document-of (x ∷ ys)) × (rows 0 (document-of (x ∷ ys)) ≡ x ∷ ys)
     go Element q = element-part (x ∷ ys) f c (subst (λ (κ : Kind). part-in-order κ (x ∷ ys) ys ≡ true) q h)
     go Attribute q = alone Attribute q refl (subst (λ (κ : Kind). part-in-order κ (x ∷ ys) ys ≡ true) q h)
@@ -232,9 +236,11 @@ parts-forth ((x ∷ p) ∷ ps) r f c h =
     let u = and-parts (part-is-tree (x ∷ p)) (parts-are-trees ps) h in
     let v = all-formed-parts (x ∷ p) (concat ps) f in
     let a = part-forth x p (r .0) (v .0) (λ t. omega (arith, c t, count-ids-++ t (x ∷ p) (concat ps))) (u .0) in
-    let b = parts-forth ps (r .1) (v .1) (λ t. omega (arith, c t, count-ids-++ t (x ∷ p) (concat ps))) (u .1) in
-    (sound-roots-⊕ (document-of (x ∷ p)) (trees-of-parts ps) (a .0) (b .0), rows-⊕ 0 (document-of (x ∷ p)) (trees-of-parts ps)
-        ∙ ap₂ (λ (y z : List Node). y ++ z) (a .1) (b .1))
+    let b = parts-forth ps (r .1) (v .1) (λ t. omega (arith, c t, count-ids-++ t (x ∷ p) (concat ps))) (u .1) in (
+      sound-roots-⊕ (document-of (x ∷ p)) (trees-of-parts ps) (a .0) (b .0),
+      rows-⊕ 0 (document-of (x ∷ p)) (trees-of-parts ps)
+          ∙ ap₂ (λ (y z : List Node). y ++ z) (a .1) (b .1),
+    )
 
 pub trees-forth : (xs : List Node) → all-formed xs ≡ true → ((t : ℕ) → count-ids t xs ≤ 1) → (eqb (length (parts xs .0)) 0 && parts-are-trees (parts xs .1)) ≡ true
     → SoundRoots (trees-of xs) × (rows 0 (trees-of xs) ≡ xs)

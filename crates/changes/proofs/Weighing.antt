@@ -79,7 +79,7 @@ weigh-insert-label w x [] = refl
 weigh-insert-label w x (y ∷ l) = go (ltb (x .id) (y .id)) refl (weigh-insert-label w x l)
   where
     go : (b : Bool) → ltb (x .id) (y .id) ≡ b → weigh-labels w (insert-label x l) ≡ w (x .id) + weigh-labels w l
-      → weigh-labels w (insert-label x (y ∷ l)) ≡ w (x .id) + weigh-labels w (y ∷ l)
+        → weigh-labels w (insert-label x (y ∷ l)) ≡ w (x .id) + weigh-labels w (y ∷ l)
     go true e h = rw e
     go false e h = rw (e, h) (omega arith)
 
@@ -131,15 +131,24 @@ weigh-by-code w s a = simp (weigh-nodes-++, weigh-insertion, weigh-deletion, wei
 
 pub weigh-label-changes : (w : ℕ → ℕ) (l : List MarkedLabel) → weigh-nodes w (label-changes-in-order l) ≡ brought-by-labels w l
 weigh-label-changes w [] = refl
-weigh-label-changes w (m ∷ l) = rw (weigh-nodes-++ w (changes-by-code (m .label .id) (m .changes)) (label-changes-in-order l), weigh-by-code w (m .label .id) (m .changes),
-    weigh-label-changes w l)
+weigh-label-changes w (m ∷ l) = rw (
+  weigh-nodes-++ w (changes-by-code (m .label .id) (m .changes)) (label-changes-in-order l),
+  weigh-by-code w (m .label .id) (m .changes),
+  weigh-label-changes w l,
+)
 
 pub weigh-in-order : (w : ℕ → ℕ) (m : MarkedForest) → weigh-nodes w (changes-in-order m) ≡ brought w m
 weigh-in-order w no-marks = refl
 weigh-in-order w (marked r a as′ k f) =
-    rw (weigh-nodes-++ w (changes-by-code (r .id) a) (label-changes-in-order as′ ++ (changes-in-order k ++ changes-in-order f)),
-        weigh-nodes-++ w (label-changes-in-order as′) (changes-in-order k ++ changes-in-order f), weigh-nodes-++ w (changes-in-order k) (changes-in-order f),
-        weigh-by-code w (r .id) a, weigh-label-changes w as′, weigh-in-order w k, weigh-in-order w f)
+    rw (
+      weigh-nodes-++ w (changes-by-code (r .id) a) (label-changes-in-order as′ ++ (changes-in-order k ++ changes-in-order f)),
+      weigh-nodes-++ w (label-changes-in-order as′) (changes-in-order k ++ changes-in-order f),
+      weigh-nodes-++ w (changes-in-order k) (changes-in-order f),
+      weigh-by-code w (r .id) a,
+      weigh-label-changes w as′,
+      weigh-in-order w k,
+      weigh-in-order w f,
+    )
 
 -- reduced marks bring no more
 pub cleared-labels-bring : (w : ℕ → ℕ) (l : List MarkedLabel) → brought-by-labels w (cleared-labels l) ≡ 0
@@ -173,7 +182,7 @@ without-overridden-brings w (marked r a as′ k f) =
     go (removed a) (is-some (a .content)) refl refl (without-overridden-brings w k) (without-overridden-brings w f) (left-on-node-brings w a)
   where
     go : (b c : Bool) → removed a ≡ b → is-some (a .content) ≡ c → brought w (without-overridden k) ≤ brought w k → brought w (without-overridden f) ≤ brought w f
-      → brought-on-node w (left-on-node a) ≤ brought-on-node w a → brought w (without-overridden (marked r a as′ k f)) ≤ brought w (marked r a as′ k f)
+        → brought-on-node w (left-on-node a) ≤ brought-on-node w a → brought w (without-overridden (marked r a as′ k f)) ≤ brought w (marked r a as′ k f)
     go true c e q hk hf ha = rw e (omega (arith, rw e at ha, cleared-labels-bring w as′, cleared-bring w k))
     go false true e q hk hf ha = rw (e, q) (omega (arith, rw (e, q) at ha, left-on-labels-bring w as′, cleared-bring w k))
     go false false e q hk hf ha = rw (e, q) (omega (arith, rw (e, q) at ha, left-on-labels-bring w as′))
@@ -181,8 +190,14 @@ without-overridden-brings w (marked r a as′ k f) =
 gathered-brings : (w : ℕ → ℕ) (m : MarkedForest) (g : Forest) → weigh w (before-first m g) + brought w (gathered-by-gap m g) ≡ brought w m + weigh w g
 gathered-brings w no-marks g = omega arith
 gathered-brings w (marked r a as′ k f) g =
-    omega (arith, gathered-brings w k (a .last), gathered-brings w f g, weigh-⊕ w (a .after) (before-first f g), weigh-⊕ w (a .first) (a .into ⊕ before-first k (a .last)),
-        weigh-⊕ w (a .into) (before-first k (a .last)))
+    omega (
+      arith,
+      gathered-brings w k (a .last),
+      gathered-brings w f g,
+      weigh-⊕ w (a .after) (before-first f g),
+      weigh-⊕ w (a .first) (a .into ⊕ before-first k (a .last)),
+      weigh-⊕ w (a .into) (before-first k (a .last)),
+    )
 
 pub reduced-brings : (w : ℕ → ℕ) (m : MarkedForest) → brought w (reduced-marks m) ≤ brought w m
 reduced-brings w m = omega (arith, gathered-brings w (without-overridden m) nil, without-overridden-brings w m)
@@ -209,14 +224,17 @@ insert-marked-brings w x [] = refl
 insert-marked-brings w x (y ∷ l) = go (ltb (x .label .id) (y .label .id)) refl (insert-marked-brings w x l)
   where
     go : (b : Bool) → ltb (x .label .id) (y .label .id) ≡ b → brought-by-labels w (insert-marked x l) ≡ brought-on-node w (x .changes) + brought-by-labels w l
-      → brought-by-labels w (insert-marked x (y ∷ l)) ≡ brought-on-node w (x .changes) + brought-by-labels w (y ∷ l)
+        → brought-by-labels w (insert-marked x (y ∷ l)) ≡ brought-on-node w (x .changes) + brought-by-labels w (y ∷ l)
     go true e h = rw e
     go false e h = rw (e, h) (omega arith)
 
 pub labels-taken-out-bring : (w : ℕ → ℕ) (xs : List Label) (l : List MarkedLabel) → brought-by-labels w (insert-all-marked (labels-taken-out xs) l) ≡ brought-by-labels w l
 labels-taken-out-bring w [] l = refl
-labels-taken-out-bring w (x ∷ xs) l = omega (arith, insert-marked-brings w (record { label = x; changes = deletion }) (insert-all-marked (labels-taken-out xs) l),
-    labels-taken-out-bring w xs l)
+labels-taken-out-bring w (x ∷ xs) l = omega (
+  arith,
+  insert-marked-brings w (record { label = x; changes = deletion }) (insert-all-marked (labels-taken-out xs) l),
+  labels-taken-out-bring w xs l,
+)
 
 pub labels-undone-bring : (w : ℕ → ℕ) (l : List MarkedLabel) → brought-by-labels w (labels-undone l) ≡ 0
 labels-undone-bring w [] = refl
@@ -236,7 +254,7 @@ kept-and-removed w [] = refl
 kept-and-removed w (m ∷ l) = go (removed (m .changes)) refl (kept-and-removed w l)
   where
     go : (b : Bool) → removed (m .changes) ≡ b → weigh-labels w (kept-labels l) + weigh-labels w (removed-labels l) ≡ weigh-labels w (unmark-labels l)
-      → weigh-labels w (kept-labels (m ∷ l)) + weigh-labels w (removed-labels (m ∷ l)) ≡ weigh-labels w (unmark-labels (m ∷ l))
+        → weigh-labels w (kept-labels (m ∷ l)) + weigh-labels w (removed-labels (m ∷ l)) ≡ weigh-labels w (unmark-labels (m ∷ l))
     go true e h = rw e (omega arith)
     go false e h = rw e (omega arith)
 
@@ -299,7 +317,7 @@ first-one : (w : ℕ → ℕ) (c : Code) (o : Change) (l : List Change)
 first-one w c o l = go (same-code (o .code) c) refl
   where
     go : (b : Bool) → same-code (o .code) c ≡ b
-      → weigh w (or-else (nodes-given (first-of c (o ∷ l))) nil) ≤ one (same-code (o .code) c) * weigh w (o .nodes) + weigh w (or-else (nodes-given (first-of c l)) nil)
+        → weigh w (or-else (nodes-given (first-of c (o ∷ l))) nil) ≤ one (same-code (o .code) c) * weigh w (o .nodes) + weigh w (or-else (nodes-given (first-of c l)) nil)
     go true e = rw e (omega arith)
     go false e = rw e (omega arith)
 
@@ -309,9 +327,19 @@ own w o = weigh w (o .nodes)
 node-brings : (w : ℕ → ℕ) (l : List Change) → brought-on-node w (node-changes l) ≤ total (own w) l
 node-brings w [] = omega arith
 node-brings w (o ∷ l) =
-    omega (arith, node-brings w l, joined-one w InsertBefore o l, joined-one w InsertAfter o l, joined-one w InsertFirst o l, joined-one w InsertInto o l,
-      joined-one w InsertLast o l, joined-one w InsertAttributes o l, first-one w ReplaceNode o l, first-one w ReplaceContent o l,
-      mul-le-mul-right (weigh w (o .nodes)) (codes (o .code)))
+    omega (
+      arith,
+      node-brings w l,
+      joined-one w InsertBefore o l,
+      joined-one w InsertAfter o l,
+      joined-one w InsertFirst o l,
+      joined-one w InsertInto o l,
+      joined-one w InsertLast o l,
+      joined-one w InsertAttributes o l,
+      first-one w ReplaceNode o l,
+      first-one w ReplaceContent o l,
+      mul-le-mul-right (weigh w (o .nodes)) (codes (o .code)),
+    )
 
 labels-bring : (w : ℕ → ℕ) (l : List Change) (rs : List Label) → brought-by-labels w (mark-labels l rs) ≤ spread-labels (own w) l rs
 labels-bring w l [] = omega arith

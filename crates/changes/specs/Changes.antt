@@ -21,7 +21,6 @@ abbrev pub same-code : Code → Code → Bool
 same-code a b = eqb (code-number a) (code-number b)
 
 infixr 60 _⊕_
-
 -- two rows of trees, one behind the other
 abbrev pub _⊕_ : Forest → Forest → Forest
 nil ⊕ g = g

@@ -21,8 +21,18 @@ unchanged (node r as′ k f) = marked r no-changes (unchanged-labels as′) (unc
 
 abbrev pub deletion : NodeChanges
 deletion = record {
-  before = nil; after = nil; first = nil; into = nil; last = nil; attributes = nil;
-  deleted = true; replaced = None; revalued = None; content = None; renamed = None }
+  before = nil;
+  after = nil;
+  first = nil;
+  into = nil;
+  last = nil;
+  attributes = nil;
+  deleted = true;
+  replaced = None;
+  revalued = None;
+  content = None;
+  renamed = None;
+}
 
 -- inserted roots are deleted
 abbrev pub taken-out : Forest → MarkedForest
@@ -51,14 +61,24 @@ old-if-new (Some w) v = Some v
 -- what is done to a node that stayed: g comes behind it, h before its first child, at among its attributes
 abbrev pub undone : Label → NodeChanges → Forest → Forest → Forest → NodeChanges
 undone r a g h at = record {
-  before = nil; after = g; first = h; into = nil; last = nil; attributes = at;
-  deleted = false; replaced = None; revalued = old-if-new (a .revalued) (r .value); content = None; renamed = old-if-new (a .renamed) (r .name) }
+  before = nil;
+  after = g;
+  first = h;
+  into = nil;
+  last = nil;
+  attributes = at;
+  deleted = false;
+  replaced = None;
+  revalued = old-if-new (a .revalued) (r .value);
+  content = None;
+  renamed = old-if-new (a .renamed) (r .name);
+}
 
 abbrev pub labels-undone : List MarkedLabel → List MarkedLabel
 labels-undone [] = []
 labels-undone (m ∷ l) =
     cond (removed (m .changes)) (labels-undone l)
-      (record { label = relabelled (m .label) (m .changes); changes = undone (m .label) (m .changes) nil nil nil } ∷ labels-undone l)
+    (record { label = relabelled (m .label) (m .changes); changes = undone (m .label) (m .changes) nil nil nil } ∷ labels-undone l)
 
 abbrev pub insert-marked : MarkedLabel → List MarkedLabel → List MarkedLabel
 insert-marked x [] = x ∷ []
@@ -74,12 +94,12 @@ abbrev pub inverse-marks : MarkedForest → MarkedForest
 inverse-marks no-marks = no-marks
 inverse-marks (marked r a as′ k f) =
     cond (removed a)
-      (taken-out (or-else (a .replaced) nil) ⊞ (taken-out (a .after) ⊞ inverse-marks f))
-      (marked (relabelled r a)
-        (undone r a (removed-run f) (cond (is-some (a .content)) (unmark k) (removed-run k)) (childless (removed-labels as′)))
-        (insert-all-marked (labels-taken-out (replacing-labels as′ ++ root-labels (a .attributes))) (labels-undone as′))
-        (cond (is-some (a .content)) (taken-out (or-else (a .content) nil)) (taken-out (a .first) ⊞ inverse-marks k))
-        (taken-out (a .after) ⊞ inverse-marks f))
+    (taken-out (or-else (a .replaced) nil) ⊞ (taken-out (a .after) ⊞ inverse-marks f))
+    (marked (relabelled r a)
+    (undone r a (removed-run f) (cond (is-some (a .content)) (unmark k) (removed-run k)) (childless (removed-labels as′)))
+    (insert-all-marked (labels-taken-out (replacing-labels as′ ++ root-labels (a .attributes))) (labels-undone as′))
+    (cond (is-some (a .content)) (taken-out (or-else (a .content) nil)) (taken-out (a .first) ⊞ inverse-marks k))
+    (taken-out (a .after) ⊞ inverse-marks f))
 
 -- the inverse list of a list on a document
 unfoldable pub inverse : Forest → List Change → List Change

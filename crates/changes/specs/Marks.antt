@@ -24,8 +24,18 @@ pub record NodeChanges : Type 0 where
 
 abbrev pub no-changes : NodeChanges
 no-changes = record {
-  before = nil; after = nil; first = nil; into = nil; last = nil; attributes = nil;
-  deleted = false; replaced = None; revalued = None; content = None; renamed = None }
+  before = nil;
+  after = nil;
+  first = nil;
+  into = nil;
+  last = nil;
+  attributes = nil;
+  deleted = false;
+  replaced = None;
+  revalued = None;
+  content = None;
+  renamed = None;
+}
 
 -- an attribute with its changes
 pub record MarkedLabel : Type 0 where
@@ -38,7 +48,6 @@ pub data MarkedForest : Type 0 where
   marked : Label → NodeChanges → List MarkedLabel → MarkedForest → MarkedForest → MarkedForest
 
 infixr 60 _⊞_
-
 abbrev pub _⊞_ : MarkedForest → MarkedForest → MarkedForest
 no-marks ⊞ g = g
 (marked r a as′ k f) ⊞ g = marked r a as′ k (f ⊞ g)
@@ -46,11 +55,18 @@ no-marks ⊞ g = g
 -- the changes on one node, by what they do
 abbrev pub node-changes : List Change → NodeChanges
 node-changes l = record {
-  before = joined-nodes InsertBefore l; after = joined-nodes InsertAfter l;
-  first = joined-nodes InsertFirst l; into = joined-nodes InsertInto l; last = joined-nodes InsertLast l;
+  before = joined-nodes InsertBefore l;
+  after = joined-nodes InsertAfter l;
+  first = joined-nodes InsertFirst l;
+  into = joined-nodes InsertInto l;
+  last = joined-nodes InsertLast l;
   attributes = joined-nodes InsertAttributes l;
-  deleted = is-some (first-of Delete l); replaced = nodes-given (first-of ReplaceNode l); revalued = value-given (first-of ReplaceValue l);
-  content = nodes-given (first-of ReplaceContent l); renamed = name-given (first-of Rename l) }
+  deleted = is-some (first-of Delete l);
+  replaced = nodes-given (first-of ReplaceNode l);
+  revalued = value-given (first-of ReplaceValue l);
+  content = nodes-given (first-of ReplaceContent l);
+  renamed = name-given (first-of Rename l);
+}
 
 -- the document with the changes of a list beside its nodes
 abbrev pub mark-labels : List Change → List Label → List MarkedLabel
@@ -97,5 +113,5 @@ all-stages-at-once no-marks = nil
 all-stages-at-once (marked r a as′ k f) =
     a .before
     ⊕ (cond (removed a) (or-else (a .replaced) nil)
-        (node (relabelled r a) (insert-labels (replacing-labels as′ ++ root-labels (a .attributes)) (kept-labels as′)) (children-after a (all-stages-at-once k)) nil)
+    (node (relabelled r a) (insert-labels (replacing-labels as′ ++ root-labels (a .attributes)) (kept-labels as′)) (children-after a (all-stages-at-once k)) nil)
     ⊕ (a .after ⊕ all-stages-at-once f))

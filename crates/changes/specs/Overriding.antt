@@ -49,7 +49,7 @@ abbrev pub overridden : Forest → List Change → List Change → Change → Bo
 overridden d l e o =
     overridden-from-above l (o .target) d
     || overridden-on-target (o .code) (has-change Delete (o .target) l) (has-change ReplaceNode (o .target) l) (has-change ReplaceContent (o .target) l)
-         (has-change Delete (o .target) e)
+    (has-change Delete (o .target) e)
 
 -- the changes that are left, of the part of l behind e
 abbrev pub left-behind : Forest → List Change → List Change → List Change → List Change
@@ -108,9 +108,18 @@ by-nothing (Some (node r as′ k f)) = false
 
 abbrev pub deleted-if-by-nothing : NodeChanges → NodeChanges
 deleted-if-by-nothing a = record {
-  before = a .before; after = a .after; first = a .first; into = a .into; last = a .last; attributes = a .attributes;
-  deleted = a .deleted || by-nothing (a .replaced); replaced = unless-empty (a .replaced);
-  revalued = a .revalued; content = a .content; renamed = a .renamed }
+  before = a .before;
+  after = a .after;
+  first = a .first;
+  into = a .into;
+  last = a .last;
+  attributes = a .attributes;
+  deleted = a .deleted || by-nothing (a .replaced);
+  replaced = unless-empty (a .replaced);
+  revalued = a .revalued;
+  content = a .content;
+  renamed = a .renamed;
+}
 
 abbrev pub labels-by-nothing : List MarkedLabel → List MarkedLabel
 labels-by-nothing [] = []

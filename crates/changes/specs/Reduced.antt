@@ -29,16 +29,34 @@ unless-empty (Some (node r as′ k f)) = Some (node r as′ k f)
 -- a node that goes: what stands beside it is left, and how it goes
 abbrev pub left-on-removed : NodeChanges → NodeChanges
 left-on-removed a = record {
-  before = a .before; after = a .after; first = nil; into = nil; last = nil; attributes = nil;
-  deleted = not (is-some (unless-empty (a .replaced))); replaced = unless-empty (a .replaced); revalued = None; content = None; renamed = None }
+  before = a .before;
+  after = a .after;
+  first = nil;
+  into = nil;
+  last = nil;
+  attributes = nil;
+  deleted = not (is-some (unless-empty (a .replaced)));
+  replaced = unless-empty (a .replaced);
+  revalued = None;
+  content = None;
+  renamed = None;
+}
 
 -- a node that stays: nothing is inserted into it if its content is replaced
 abbrev pub left-on-kept : NodeChanges → NodeChanges
 left-on-kept a = record {
-  before = a .before; after = a .after;
-  first = cond (is-some (a .content)) nil (a .first); into = cond (is-some (a .content)) nil (a .into); last = cond (is-some (a .content)) nil (a .last);
+  before = a .before;
+  after = a .after;
+  first = cond (is-some (a .content)) nil (a .first);
+  into = cond (is-some (a .content)) nil (a .into);
+  last = cond (is-some (a .content)) nil (a .last);
   attributes = a .attributes;
-  deleted = false; replaced = None; revalued = a .revalued; content = a .content; renamed = a .renamed }
+  deleted = false;
+  replaced = None;
+  revalued = a .revalued;
+  content = a .content;
+  renamed = a .renamed;
+}
 
 abbrev pub left-on-node : NodeChanges → NodeChanges
 left-on-node a = cond (removed a) (left-on-removed a) (left-on-kept a)
@@ -52,9 +70,9 @@ abbrev pub without-overridden : MarkedForest → MarkedForest
 without-overridden no-marks = no-marks
 without-overridden (marked r a as′ k f) =
     marked r (left-on-node a)
-      (cond (removed a) (cleared-labels as′) (left-on-labels as′))
-      (cond (removed a || is-some (a .content)) (cleared k) (without-overridden k))
-      (without-overridden f)
+    (cond (removed a) (cleared-labels as′) (left-on-labels as′))
+    (cond (removed a || is-some (a .content)) (cleared k) (without-overridden k))
+    (without-overridden f)
 
 -- RULE 3: the insertions into a gap stand with the node on its left, or with the parent
 -- what is inserted before the first node of a row, or else last by the parent
@@ -65,8 +83,18 @@ before-first (marked r a as′ k f) g = a .before
 -- g: what else is inserted behind the node; h: what else before its first child
 abbrev pub gathered-on-node : NodeChanges → Forest → Forest → NodeChanges
 gathered-on-node a g h = record {
-  before = nil; after = a .after ⊕ g; first = a .first ⊕ (a .into ⊕ h); into = nil; last = nil; attributes = a .attributes;
-  deleted = a .deleted; replaced = a .replaced; revalued = a .revalued; content = a .content; renamed = a .renamed }
+  before = nil;
+  after = a .after ⊕ g;
+  first = a .first ⊕ (a .into ⊕ h);
+  into = nil;
+  last = nil;
+  attributes = a .attributes;
+  deleted = a .deleted;
+  replaced = a .replaced;
+  revalued = a .revalued;
+  content = a .content;
+  renamed = a .renamed;
+}
 
 -- g: what the parent of the row has inserted last
 abbrev pub gathered-by-gap : MarkedForest → Forest → MarkedForest

@@ -10,9 +10,11 @@ use Rattle.changes.specs.Changes.{Change, _⊕_, root-labels, insert-labels, c
 -- a node with the value and the name that the list gives it
 abbrev pub edited : List Change → Label → Label
 edited l r = record {
-  id = r .id; kind = r .kind;
+  id = r .id;
+  kind = r .kind;
   name = or-else (name-given (first-of Rename (changes-on (r .id) l))) (r .name);
-  value = or-else (value-given (first-of ReplaceValue (changes-on (r .id) l))) (r .value) }
+  value = or-else (value-given (first-of ReplaceValue (changes-on (r .id) l))) (r .value);
+}
 
 abbrev pub edited-labels : List Change → List Label → List Label
 edited-labels l [] = []
@@ -24,9 +26,9 @@ abbrev pub stage-1-into-attributes-values-names : List Change → Forest → For
 stage-1-into-attributes-values-names l nil = nil
 stage-1-into-attributes-values-names l (node r as′ k f) =
     node (edited l r)
-      (insert-labels (root-labels (joined-nodes InsertAttributes (changes-on (r .id) l))) (edited-labels l as′))
-      (joined-nodes InsertInto (changes-on (r .id) l) ⊕ stage-1-into-attributes-values-names l k)
-      (stage-1-into-attributes-values-names l f)
+    (insert-labels (root-labels (joined-nodes InsertAttributes (changes-on (r .id) l))) (edited-labels l as′))
+    (joined-nodes InsertInto (changes-on (r .id) l) ⊕ stage-1-into-attributes-values-names l k)
+    (stage-1-into-attributes-values-names l f)
 
 -- Stage 2: upd:insertBefore, upd:insertAfter, upd:insertIntoAsFirst, upd:insertIntoAsLast
 abbrev pub stage-2-before-after-first-last : List Change → Forest → Forest
@@ -34,8 +36,8 @@ stage-2-before-after-first-last l nil = nil
 stage-2-before-after-first-last l (node r as′ k f) =
     joined-nodes InsertBefore (changes-on (r .id) l)
     ⊕ node r as′
-        (joined-nodes InsertFirst (changes-on (r .id) l) ⊕ (stage-2-before-after-first-last l k ⊕ joined-nodes InsertLast (changes-on (r .id) l)))
-        (joined-nodes InsertAfter (changes-on (r .id) l) ⊕ stage-2-before-after-first-last l f)
+    (joined-nodes InsertFirst (changes-on (r .id) l) ⊕ (stage-2-before-after-first-last l k ⊕ joined-nodes InsertLast (changes-on (r .id) l)))
+    (joined-nodes InsertAfter (changes-on (r .id) l) ⊕ stage-2-before-after-first-last l f)
 
 -- the attributes without a change of one code
 abbrev pub without-change : Code → List Change → List Label → List Label
@@ -52,7 +54,7 @@ abbrev pub stage-3-replaced-nodes : List Change → Forest → Forest
 stage-3-replaced-nodes l nil = nil
 stage-3-replaced-nodes l (node r as′ k f) =
     or-else (nodes-given (first-of ReplaceNode (changes-on (r .id) l)))
-      (node r (insert-labels (replacements l as′) (without-change ReplaceNode l as′)) (stage-3-replaced-nodes l k) nil)
+    (node r (insert-labels (replacements l as′) (without-change ReplaceNode l as′)) (stage-3-replaced-nodes l k) nil)
     ⊕ stage-3-replaced-nodes l f
 
 -- Stage 4: upd:replaceElementContent. All children go, those just inserted too.

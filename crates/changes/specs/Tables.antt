@@ -15,7 +15,9 @@ use Rattle.document.specs.Tree.{Forest, nil, one, count}
 use Rattle.document.specs.Listing.{rows}
 use Rattle.document.specs.Table.{out-of-order, repeat-from, name-key, document-of}
 use Rattle.changes.specs.Changes.{Change, _⊕_, is-some}
-use Rattle.changes.specs.Tests.{Refusal, refused, change-test}
+use Rattle.faults.specs.declared.ListFault.{ListFault}
+use Rattle.faults.specs.declared.ListFault.the-variants.{Structure, Misformed, IdentifierTaken, NoTrees}
+use Rattle.changes.specs.Tests.{refused, change-test}
 
 -- FROM CHANGES TO TABLES
 abbrev pub operation-rows : List Change → List Operation
@@ -97,10 +99,10 @@ abbrev pub no-row-of-trees : List Node → Operation → List Node → Bool
 no-row-of-trees e o xs = not (eqb (length (parts xs .0)) 0 && parts-are-trees (parts xs .1))
 
 -- all tests on a list on a document, in their order
-unfoldable pub list-test : ℕ → Forest → List Operation → List Node → Option Refusal
+unfoldable pub list-test : ℕ → Forest → List Operation → List Node → Option ListFault
 list-test room d ops nodes =
-    refused 2 (miscounted-from 0 ops nodes)
-    (refused 3 (first-operation misformed [] 0 ops nodes)
-    (refused 8 (first-operation (identifier-taken d) [] 0 ops nodes)
-    (refused 9 (first-operation no-row-of-trees [] 0 ops nodes)
+    refused Structure (miscounted-from 0 ops nodes)
+    (refused Misformed (first-operation misformed [] 0 ops nodes)
+    (refused IdentifierTaken (first-operation (identifier-taken d) [] 0 ops nodes)
+    (refused NoTrees (first-operation no-row-of-trees [] 0 ops nodes)
     (change-test room d (changes-of ops nodes)))))

@@ -11,16 +11,13 @@ use Rattle.records.specs.declared.nodes.Kind.{Kind}
 use Rattle.records.specs.declared.nodes.Kind.the-variants.{Element, Attribute, Text}
 use Rattle.records.specs.declared.operations.Code.{Code}
 use Rattle.records.specs.declared.operations.Code.the-variants.{InsertBefore, InsertAfter, InsertFirst, InsertInto, InsertLast, InsertAttributes, Delete, ReplaceNode, ReplaceValue, ReplaceContent, Rename}
+use Rattle.faults.specs.declared.ListFault.{ListFault}
+use Rattle.faults.specs.declared.ListFault.the-variants.{NodesUnsuited, TargetAbsent, TargetUnsuited, SecondOfCode, NameTaken, NoRoom}
 use Rattle.document.specs.Tree.{Label, Forest, nil, node, count, size, count-names, Above, Formed, Attributes, Sound}
 use Rattle.document.specs.Table.{seen, is-attribute}
 use Rattle.changes.specs.Changes.{Change, root-labels, changes-on, first-of, is-some, count-nodes, size-nodes}
 use Rattle.changes.specs.Reduced.{reduced}
 use Rattle.changes.specs.Overriding.{stands-in, overridden}
-
--- why a list was refused: the number of the test, and the place of the change at fault; all of these are refusals of the list
-pub record Refusal : Type 0 where
-  pub number : ℕ
-  pub place : ℕ
 
 -- the place of the first change that a test refuses; the test is shown the changes before it, the latest first
 abbrev pub first-refused : (List Change → Change → Bool) → List Change → ℕ → List Change → Option ℕ
@@ -197,26 +194,26 @@ abbrev pub first-clash : Forest → List Change → List Change → List (ℕ ×
 first-clash d l e had n [] = None
 first-clash d l e had n (o ∷ r) =
     cond (overridden d l e o) (first-clash d l (o ∷ e) had (n + 1) r)
-      (cond (clash (names-of d o) had) (Some n) (first-clash d l (o ∷ e) (names-of d o ++ had) (n + 1) r))
+    (cond (clash (names-of d o) had) (Some n) (first-clash d l (o ∷ e) (names-of d o ++ had) (n + 1) r))
 
 -- TEST 15: the document and the nodes of the reduced list need more than the room
 abbrev pub room-lacks : ℕ → Forest → List Change → Option ℕ
 room-lacks room d l = cond (ltb room (size d + size-nodes (reduced d l))) (Some 0) None
 
 -- the refusal of a test where it names a place, else what the later tests say
-abbrev pub refused : ℕ → Option ℕ → Option Refusal → Option Refusal
-refused n None later = later
-refused n (Some p) later = Some (record { number = n; place = p })
+abbrev pub refused : (ℕ → ListFault) → Option ℕ → Option ListFault → Option ListFault
+refused fault None later = later
+refused fault (Some p) later = Some (fault p)
 
 -- the tests on changes with their trees: 10 to 15
-unfoldable pub change-test : ℕ → Forest → List Change → Option Refusal
+unfoldable pub change-test : ℕ → Forest → List Change → Option ListFault
 change-test room d l =
-    refused 10 (first-refused nodes-unsuited [] 0 l)
-    (refused 11 (first-refused (target-absent d) [] 0 l)
-    (refused 12 (first-refused (target-unsuited d) [] 0 l)
-    (refused 13 (first-refused second-of-code [] 0 l)
-    (refused 14 (first-clash d l [] (names-in d) 0 l)
-    (refused 15 (room-lacks room d l) None)))))
+    refused NodesUnsuited (first-refused nodes-unsuited [] 0 l)
+    (refused TargetAbsent (first-refused (target-absent d) [] 0 l)
+    (refused TargetUnsuited (first-refused (target-unsuited d) [] 0 l)
+    (refused SecondOfCode (first-refused second-of-code [] 0 l)
+    (refused NameTaken (first-clash d l [] (names-in d) 0 l)
+    (refused (λ p. NoRoom) (room-lacks room d l) None)))))
 
 -- What the tests 3, 8 and 9 on tables say of a list with its trees.
 -- 3: the target is above 0, name and value suit the code

@@ -22,6 +22,14 @@ told-file file.the-variants.TableShort = report 22 1 0
 abbrev pub told-list : ListFault → Report
 told-list (list.the-variants.Structure p) = report 2 2 p
 told-list (list.the-variants.Misformed p) = report 3 2 p
+told-list (list.the-variants.IdentifierTaken p) = report 8 2 p
+told-list (list.the-variants.NoTrees p) = report 9 2 p
+told-list (list.the-variants.NodesUnsuited p) = report 10 2 p
+told-list (list.the-variants.TargetAbsent p) = report 11 2 p
+told-list (list.the-variants.TargetUnsuited p) = report 12 2 p
+told-list (list.the-variants.SecondOfCode p) = report 13 2 p
+told-list (list.the-variants.NameTaken p) = report 14 2 p
+told-list list.the-variants.NoRoom = report 15 2 0
 
 abbrev pub told-document : DocumentFault → Report
 told-document document.the-variants.ScratchShort = report 21 3 0

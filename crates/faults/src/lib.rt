@@ -32,11 +32,19 @@ pub enum FileFault {
     TableShort,
 }
 
-// A change list that is none. The place is an operation.
+// A change list that is none, or does not suit the document. The place is an operation.
 #[derive(Clone, Copy, PartialEq, Eq, Debug)]
 pub enum ListFault {
     Structure(usize),
     Misformed(usize),
+    IdentifierTaken(usize),
+    NoTrees(usize),
+    NodesUnsuited(usize),
+    TargetAbsent(usize),
+    TargetUnsuited(usize),
+    SecondOfCode(usize),
+    NameTaken(usize),
+    NoRoom,
 }
 
 // A node table that is no document, or scratch memory too short to test it. The place is a node of the table.
@@ -102,6 +110,14 @@ impl ListFault {
         match self {
             ListFault::Structure(place) => Report::new(2, 2, place),
             ListFault::Misformed(place) => Report::new(3, 2, place),
+            ListFault::IdentifierTaken(place) => Report::new(8, 2, place),
+            ListFault::NoTrees(place) => Report::new(9, 2, place),
+            ListFault::NodesUnsuited(place) => Report::new(10, 2, place),
+            ListFault::TargetAbsent(place) => Report::new(11, 2, place),
+            ListFault::TargetUnsuited(place) => Report::new(12, 2, place),
+            ListFault::SecondOfCode(place) => Report::new(13, 2, place),
+            ListFault::NameTaken(place) => Report::new(14, 2, place),
+            ListFault::NoRoom => Report::new(15, 2, 0),
         }
     }
 }
