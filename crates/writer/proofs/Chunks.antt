@@ -12,7 +12,7 @@ use Rattle.records.specs.declared.operations.Operation.{Operation}
 use Rattle.records.specs.declared.operations.Code.the-variants.{InsertBefore}
 use Rattle.codec.specs.Fields.{record-of-node, record-of-operation}
 use Rattle.reader.specs.Layout.{document-records, list-records}
-use Rattle.writer.specs.Writing.{counts-from}
+use Rattle.writer.specs.Scans.{counts-from}
 use Rattle.writer.proofs.Passing.{counts-first, none-left}
 
 -- what reading past the end of an operation table would give, and the operation at a place

@@ -1,12 +1,12 @@
--- The tests on tables, one operation on.
-use Prim.Native.Nat.{ℕ, _+_, _-_, _<_, _≤_}
+-- The tests on tables, one operation on, and as the loops make them.
+use Prim.Native.Nat.{ℕ, suc, _+_, _-_, _<_, _≤_}
 use mathlib.Core.Path.{_≡_, refl, sym, _∙_, ap}
-use mathlib.Core.List.{List, [], _∷_}
+use mathlib.Core.List.{List, [], _∷_, _++_}
 use mathlib.Core.Bool.{Bool, true, false, cond, not, _&&_}
 use native.Mathlib.Omega.{arith}
-use lib.Dec.{ltb}
-use lib.ListN.{length, take, drop, getD}
-use borrow.Author.Tests.{lt-ltb, le-ltb}
+use lib.Dec.{leb, ltb}
+use lib.ListN.{length, take, drop, getD, length-drop}
+use borrow.Author.Tests.{lt-ltb, le-ltb, ne-eqb, leb-true, leb-false}
 use Rattle.std.proofs.shelf.Lists.{at-drop-more, at-drop-all, drop-drop}
 use Rattle.std.specs.Options.{isSome}
 use Rattle.std.specs.declared.option.Option.{Option}
@@ -15,7 +15,8 @@ use Rattle.records.specs.declared.nodes.Node.{Node}
 use Rattle.records.specs.declared.operations.Operation.{Operation}
 use Rattle.records.specs.Formed.{formed-node, formed-operation}
 use Rattle.document.specs.Table.{misformed-from}
-use Rattle.writer.specs.Writing.{counts-from, all-formed, formed-with, misformed-list-from}
+use Rattle.changes.specs.Tables.{all-formed, miscounted-from, first-operation, misformed}
+use Rattle.writer.specs.Scans.{counts-from, formed-with, misformed-list-from}
 use Rattle.codec.proofs.Spelled.{some-none}
 
 -- no node of a table is misformed exactly when all are formed
@@ -46,3 +47,24 @@ module _ (os : List Operation) (k : ℕ) (o : Operation) (h : k < length os) (e 
 
   pub misformed-past : (xs : List Node) → formed-with o (take (o .count) xs) ≡ true → misformed-list-from k (drop k os) xs ≡ misformed-list-from (k + 1) (drop (k + 1) os) (drop (o .count) xs)
   misformed-past xs f = at-drop-more (λ r. misformed-list-from k r xs) os k o h ∙ rw (← e, f)
+
+-- the loops make the tests on a list
+pub counted-as : (n : ℕ) (os : List Operation) (xs : List Node) → counts-from n os (length xs) ≡ miscounted-from n os xs
+counted-as n [] [] = refl
+counted-as n [] (x ∷ xs) = rw (ne-eqb (suc (length xs)) 0 (λ e. absurd (omega arith)))
+counted-as n (o ∷ os) xs = go (leb (o .count) (length xs)) refl (counted-as (n + 1) os (drop (o .count) xs))
+  where
+    go : (b : Bool) → leb (o .count) (length xs) ≡ b → counts-from (n + 1) os (length (drop (o .count) xs)) ≡ miscounted-from (n + 1) os (drop (o .count) xs)
+        → counts-from n (o ∷ os) (length xs) ≡ miscounted-from n (o ∷ os) xs
+    go true e h = rw (e, le-ltb (length xs) (o .count) (leb-true (o .count) (length xs) e)) (ap (counts-from (n + 1) os) (sym (length-drop (o .count) xs)) ∙ h)
+    go false e h = rw (e, lt-ltb (length xs) (o .count) (leb-false (o .count) (length xs) e))
+
+pub formed-as : (e : List Node) (n : ℕ) (os : List Operation) (xs : List Node) → misformed-list-from n os xs ≡ first-operation misformed e n os xs
+formed-as e n [] xs = refl
+formed-as e n (o ∷ os) xs = go (formed-with o (take (o .count) xs)) refl (formed-as (take (o .count) xs ++ e) (n + 1) os (drop (o .count) xs))
+  where
+    go : (b : Bool) → formed-with o (take (o .count) xs) ≡ b
+        → misformed-list-from (n + 1) os (drop (o .count) xs) ≡ first-operation misformed (take (o .count) xs ++ e) (n + 1) os (drop (o .count) xs)
+        → misformed-list-from n (o ∷ os) xs ≡ first-operation misformed e n (o ∷ os) xs
+    go true b h = rw b h
+    go false b h = rw b

@@ -23,7 +23,8 @@ use Rattle.codec.specs.Fields.{node-of, operation-of, record-of-node, record-of
 use Rattle.codec.proofs.Spelled.{some-none, node-back, operation-back, node-from, operation-from}
 use Rattle.reader.specs.Reading.{due-after, ill-built, structure-from, spells, misformed-from, and-some, operations-in, nodes-in}
 use Rattle.reader.specs.Layout.{document-records, list-records}
-use Rattle.writer.specs.Writing.{counts-from, all-formed, misformed-list-from}
+use Rattle.changes.specs.Tables.{all-formed}
+use Rattle.writer.specs.Scans.{counts-from, misformed-list-from}
 use Rattle.reader.proofs.Back.{structure-suc, misformed-suc, operations-suc, nodes-suc}
 
 -- the records of formed nodes are read as those nodes, and then what follows

@@ -21,9 +21,11 @@ use Rattle.writer.specs.ReadBack.{ReadsDocument, ReadsList}
 use Rattle.reader.specs.Bytes.{records, file-of, over, patched, Spelt}
 use Rattle.reader.specs.Reading.{structure-from, misformed-from, operations-in, nodes-in, document-nodes, document-read, list-operations, list-nodes, list-read}
 use Rattle.reader.specs.Layout.{document-records, list-records}
-use Rattle.writer.specs.Writing.{at-fault, counts-from, misformed-list-from, tested-nodes, tested-list, tested-room}
+use Rattle.writer.specs.Scans.{counts-from, misformed-list-from}
+use Rattle.writer.specs.Writing.{at-fault, tested-nodes, tested-list, tested-room}
 use Rattle.reader.proofs.Rows.{length-file-of, records-of-file, patch-front}
-use Rattle.writer.proofs.Formed.{formed-from-none}
+use Rattle.changes.specs.Tables.{miscounted-from, first-operation, misformed}
+use Rattle.writer.proofs.Formed.{formed-from-none, counted-as, formed-as}
 use Rattle.writer.proofs.Passing.{document-reads, Reads, list-reads}
 use Rattle.writer.proofs.Chunks.{length-list-records}
 use Rattle.reader.proofs.Accepting.{ok-err}
@@ -59,15 +61,22 @@ reads-document xs h s =
     let d = document-reads xs (formed-from-none 0 xs (no-fault (misformed-node-from 0 xs) _ _ h .0)) in
     record { answer = rw (w .0, w .1, r, d .0, le-ltb (length xs) (length xs) (omega arith)); nodes = rw (w .1, r) (d .1) }
 
+-- what the tests on the tables of a list say to the loops
+pub list-counted : (os : List Operation) (xs : List Node) → tested-list os xs ≡ Ok tt → counts-from 0 os (length xs) ≡ None
+list-counted os xs h = counted-as 0 os xs ∙ no-fault (miscounted-from 0 os xs) _ _ h .0
+
+list-formed : (os : List Operation) (xs : List Node) → tested-list os xs ≡ Ok tt → misformed-list-from 0 os xs ≡ None
+list-formed os xs h = formed-as [] 0 os xs ∙ no-fault (first-operation misformed [] 0 os xs) _ _ (no-fault (miscounted-from 0 os xs) _ _ h .1) .0
+
 pub reads-list : (os : List Operation) (xs : List Node) → tested-list os xs ≡ Ok tt → Spelt (list-records os xs) → ReadsList (file-of (list-records os xs)) os xs
 reads-list os xs h s =
     let rs = list-records os xs in
-    let a = no-fault (counts-from 0 os (length xs)) _ _ h in
-    let b = no-fault (misformed-list-from 0 os xs) _ _ (a .1) in
-    let long = length-list-records 0 os xs (a .0) in
+    let a = list-counted os xs h in
+    let b = list-formed os xs h in
+    let long = length-list-records 0 os xs a in
     let w = whole rs (length os + length xs) long in
     let r = records-of-file rs s in
-    let d = list-reads 0 os xs (a .0) (b .0) in
+    let d = list-reads 0 os xs a b in
     let n : length os + length xs - length os ≡ length xs = omega arith in
     record {
       answer = rw (w .0, r, d .built 0, d .formed 0, w .1, d .operations, n, le-ltb (length os) (length os) (omega arith), le-ltb (length xs) (length xs) (omega arith));

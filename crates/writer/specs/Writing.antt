@@ -22,6 +22,7 @@ use Rattle.faults.specs.declared.DocumentFault.the-variants as document
 use Rattle.faults.specs.declared.Fault.{Fault}
 use Rattle.faults.specs.declared.Fault.the-variants as fault
 use Rattle.document.specs.Table.{misformed-from}
+use Rattle.changes.specs.Tables.{miscounted-from, first-operation, misformed}
 use Rattle.reader.specs.Bytes.{file-of, over}
 
 -- a test's fault where it finds a place, else what the later tests say
@@ -45,27 +46,9 @@ tested-nodes xs = at-fault (misformed-from 0 xs) document.Misformed (Ok tt)
 abbrev pub document-written : ℕ → List Node → Result ℕ Fault
 document-written room xs = then (tested-nodes xs) fault.Document (then (tested-room room (length xs)) fault.File (Ok (16 * length xs)))
 
--- the first operation that counts more nodes than are left, or the number of operations where nodes are left over
-abbrev pub counts-from : ℕ → List Operation → ℕ → Option ℕ
-counts-from n [] left = cond (eqb left 0) None (Some n)
-counts-from n (o ∷ os) left = cond (ltb left (o .count)) (Some n) (counts-from (n + 1) os (left - o .count))
-
-abbrev pub all-formed : List Node → Bool
-all-formed [] = true
-all-formed (x ∷ xs) = formed-node x && all-formed xs
-
-abbrev pub formed-with : Operation → List Node → Bool
-formed-with o xs = formed-operation o && all-formed xs
-
--- the first operation that is misformed, or has a misformed node
-abbrev pub misformed-list-from : ℕ → List Operation → List Node → Option ℕ
-misformed-list-from n [] xs = None
-misformed-list-from n (o ∷ os) xs =
-    cond (formed-with o (take (o .count) xs)) (misformed-list-from (n + 1) os (drop (o .count) xs)) (Some n)
-
 -- the tests on the tables of a list, and the number of bytes that are written
 abbrev pub tested-list : List Operation → List Node → Result (Unit {0}) ListFault
-tested-list os xs = at-fault (counts-from 0 os (length xs)) list.Structure (at-fault (misformed-list-from 0 os xs) list.Misformed (Ok tt))
+tested-list os xs = at-fault (miscounted-from 0 os xs) list.Structure (at-fault (first-operation misformed [] 0 os xs) list.Misformed (Ok tt))
 
 abbrev pub list-written : ℕ → List Operation → List Node → Result ℕ Fault
 list-written room os xs = then (tested-list os xs) fault.List (then (tested-room room (length os + length xs)) fault.File (Ok (16 * (length os + length xs))))

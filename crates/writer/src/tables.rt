@@ -1,13 +1,11 @@
 // The tests on tables before they are written.
 ghost use mathlib.Core.Path.{_≡_};
-ghost use Prim.Native.Nat.{_+_, _*_, _/_, _≤_};
+ghost use mathlib.Core.List.{[]};
 ghost use lib.ListN.{length};
-ghost use Rattle.std.specs.Results.{Cases};
 ghost use Rattle.std.specs.declared.option.Option.the-variants.{None};
-ghost use Rattle.std.specs.declared.result.Result.the-variants.{Ok};
-ghost use Rattle.faults.specs.declared.DocumentFault.the-variants.{Misformed};
-ghost use Rattle.document.specs.Table.{misformed-from};
-ghost use Rattle.writer.specs.Writing.{counts-from, misformed-list-from, formed-with, tested-nodes, tested-list, tested-room};
+ghost use Rattle.changes.specs.Tables.{miscounted-from, first-operation, misformed};
+ghost use Rattle.writer.specs.Scans.{counts-from, formed-with};
+ghost use Rattle.writer.specs.Writing.{tested-nodes, tested-list, tested-room};
 use faults::DocumentFault;
 use faults::FileFault;
 use faults::ListFault;
@@ -15,8 +13,8 @@ use nodetable::first_misformed;
 use records::Node;
 use records::Operation;
 
-// The first operation that counts more nodes than are left, or the number of operations where nodes are left over.
-fn first_miscounted(operations: &[Operation], nodes: usize) -> Option<usize>
+// The first operation that counts more than are left of so many nodes, or the number of operations where some are left over.
+fn scan_counts(operations: &[Operation], nodes: usize) -> Option<usize>
     ensures { λ r. ⌜ r ≡ counts-from 0 (now (operations .entry)) nodes ⌝ }
 {
     let mut left = nodes;
@@ -34,10 +32,17 @@ fn first_miscounted(operations: &[Operation], nodes: usize) -> Option<usize>
     }
 }
 
+// The first operation that counts more nodes than are left, or the number of operations where nodes are left over.
+fn first_miscounted(operations: &[Operation], nodes: &[Node]) -> Option<usize>
+    ensures { λ r. ⌜ r ≡ miscounted-from 0 (now (operations .entry)) (now (nodes .entry)) ⌝ }
+{
+    scan_counts(operations, nodes.len())
+}
+
 // The first operation that is misformed, or has a misformed node.
 fn first_misformed_operation(operations: &[Operation], nodes: &[Node]) -> Option<usize>
-    requires { ⌜ counts-from 0 (now operations) (length (now nodes)) ≡ None ⌝ }
-    ensures { λ r. ⌜ r ≡ misformed-list-from 0 (now (operations .entry)) (now (nodes .entry)) ⌝ }
+    requires { ⌜ miscounted-from 0 (now operations) (now nodes) ≡ None ⌝ }
+    ensures { λ r. ⌜ r ≡ first-operation misformed [] 0 (now (operations .entry)) (now (nodes .entry)) ⌝ }
 {
     let mut used = 0;
     for place in 0..operations.len() {
@@ -69,7 +74,7 @@ pub fn test_nodes(nodes: &[Node]) -> Result<(), DocumentFault>
 pub fn test_tables(operations: &[Operation], nodes: &[Node]) -> Result<(), ListFault>
     ensures { λ r. ⌜ r ≡ tested-list (now (operations .entry)) (now (nodes .entry)) ⌝ }
 {
-    if let Some(place) = first_miscounted(operations, nodes.len()) {
+    if let Some(place) = first_miscounted(operations, nodes) {
         return Err(ListFault::Structure(place));
     }
     match first_misformed_operation(operations, nodes) {

@@ -8,7 +8,7 @@ ghost use Rattle.codec.specs.Codec.{bytes-of, record-of};
 ghost use Rattle.codec.specs.Fields.{record-of-operation};
 ghost use Rattle.reader.specs.Bytes.{file-of, patched, Spelt};
 ghost use Rattle.reader.specs.Layout.{document-records, list-records};
-ghost use Rattle.writer.specs.Writing.{counts-from};
+ghost use Rattle.writer.specs.Scans.{counts-from};
 use codec::Record;
 use records::Node;
 use records::Operation;

@@ -3,9 +3,10 @@ use Prim.Native.Nat.{_+_, _-_}
 use native.Mathlib.Omega.{arith}
 use lib.ListN.{length, take, drop, getD}
 use Rattle.std.proofs.shelf.Lists.{at-drop-all, drop-drop}
-use Rattle.writer.specs.Writing.{formed-with, misformed-list-from}
+use Rattle.writer.specs.Scans.{counts-from, formed-with, misformed-list-from}
 use Rattle.writer.proofs.Chunks.{blank, turn, count-within, counts-on}
-use Rattle.writer.proofs.Formed.{misformed-here, misformed-past}
+use mathlib.Core.List.{[]}
+use Rattle.writer.proofs.Formed.{counted-as, formed-as, misformed-here, misformed-past}
 use Rattle.writer.proofs.tables.first_misformed_operation.Needs as need
 
 pub part-is-formed-with-end : need.part-is-formed-with-end
@@ -23,7 +24,7 @@ returns-then-not-is-formed-with c =
     let o = getD os k blank in
     let z : u + o .count - u ≡ o .count = omega arith in
     let f = ap (λ n. formed-with o (take n (drop u xs))) (sym z) ∙ sym (c .is-formed-with .ensures) ∙ c .if-not-is-formed-with .taken in
-    sym (misformed-here os k o (c .loop-place-test .taken) (turn os k (c .loop-place-test .taken)) (drop u xs) f) ∙ c .loop-place .inv .0
+    sym (misformed-here os k o (c .loop-place-test .taken) (turn os k (c .loop-place-test .taken)) (drop u xs) f) ∙ c .loop-place .inv .0 ∙ formed-as [] 0 os xs
 
 pub loop-place-again : need.loop-place-again
 loop-place-again c =
@@ -43,4 +44,11 @@ loop-place-again c =
 
 pub returns : need.returns
 returns c =
-    sym (at-drop-all (λ l. misformed-list-from (c .loop-place .place) l (drop (c .loop-place .used) (c .args .nodes .now))) (c .args .operations .now) (c .loop-place .place) (c .loop-place-test .left)) ∙ c .loop-place .inv .0
+    sym (at-drop-all (λ l. misformed-list-from (c .loop-place .place) l (drop (c .loop-place .used) (c .args .nodes .now))) (c .args .operations .now) (c .loop-place .place) (c .loop-place-test .left))
+    ∙ c .loop-place .inv .0 ∙ formed-as [] 0 (c .args .operations .now) (c .args .nodes .now)
+
+pub loop-place-holds : need.loop-place-holds
+loop-place-holds c =
+    let os = c .args .operations .now in
+    let xs = c .args .nodes .now in
+    (refl, ap (counts-from 0 os) (omega arith) ∙ counted-as 0 os xs ∙ c .pre, omega arith)

@@ -2,7 +2,7 @@ use Prim.Native.Nat.{_-_, _≤_}
 use mathlib.Core.Path.{_≡_}
 use lib.ListN.{length, drop}
 use Rattle.std.specs.declared.option.Option.the-variants.{None}
-use Rattle.writer.specs.Writing.{counts-from, misformed-list-from}
+use Rattle.writer.specs.Scans.{counts-from, misformed-list-from}
 use Rattle.writer.proofs.tables.first_misformed_operation.Given as given
 
 abbrev pub Inv-loop-place : given.InvT-loop-place

@@ -2,7 +2,7 @@ use mathlib.Core.Path.{_≡_, refl, sym, _∙_, ap}
 use mathlib.Core.Bool.{Bool, true, false, not, _&&_}
 use Rattle.std.specs.Options.{isSome}
 use Rattle.records.specs.Formed.{formed-operation}
-use Rattle.writer.specs.Writing.{all-formed}
+use Rattle.changes.specs.Tables.{all-formed}
 use Rattle.writer.proofs.Formed.{none-misformed}
 use Rattle.writer.proofs.tables.is_formed_with.Needs as need
 

@@ -4,7 +4,7 @@ use lib.ListN.{length, take, drop}
 use Rattle.std.specs.declared.option.Option.the-variants.{None}
 use Rattle.reader.specs.Bytes.{file-of, patched, Spelt}
 use Rattle.reader.specs.Layout.{list-records}
-use Rattle.writer.specs.Writing.{counts-from}
+use Rattle.writer.specs.Scans.{counts-from}
 use Rattle.writer.proofs.writing.put_list.Given as given
 
 -- the first `place` records are written: those of k operations and of `used` nodes
