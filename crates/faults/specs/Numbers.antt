@@ -7,8 +7,10 @@ use Rattle.faults.specs.declared.ListFault as list
 use Rattle.faults.specs.declared.ListFault.{ListFault}
 use Rattle.faults.specs.declared.DocumentFault as document
 use Rattle.faults.specs.declared.DocumentFault.{DocumentFault}
+use Rattle.faults.specs.declared.StoreFault as store
+use Rattle.faults.specs.declared.StoreFault.{StoreFault}
 use Rattle.faults.specs.declared.Fault.{Fault}
-use Rattle.faults.specs.declared.Fault.the-variants.{File, List, Document}
+use Rattle.faults.specs.declared.Fault.the-variants.{File, List, Document, Store}
 
 abbrev pub report : ℕ → ℕ → ℕ → Report
 report n l p = record { number = n; layer = l; place = p }
@@ -39,7 +41,15 @@ told-document (document.the-variants.OutOfOrder p) = report 5 3 p
 told-document (document.the-variants.NameTwice p) = report 6 3 p
 told-document (document.the-variants.NoRoom p) = report 7 3 p
 
+abbrev pub told-store : StoreFault → Report
+told-store store.the-variants.Misformed = report 3 4 0
+told-store store.the-variants.Known = report 8 4 0
+told-store store.the-variants.Absent = report 11 4 0
+told-store store.the-variants.Unsuited = report 12 4 0
+told-store store.the-variants.Full = report 15 4 0
+
 abbrev pub told : Fault → Report
 told (File f) = told-file f
 told (List f) = told-list f
 told (Document f) = told-document f
+told (Store f) = told-store f

@@ -1,7 +1,7 @@
 // Why a call was refused: one enum for each layer, and one for a refusal of any layer.
 ghost use mathlib.Core.Path.{_≡_};
-ghost use Rattle.faults.specs.declared.Fault.the-variants.{File, List, Document};
-ghost use Rattle.faults.specs.Numbers.{report, told-file, told-list, told-document, told};
+ghost use Rattle.faults.specs.declared.Fault.the-variants.{File, List, Document, Store};
+ghost use Rattle.faults.specs.Numbers.{report, told-file, told-list, told-document, told-store, told};
 
 // Number, layer and place, as a refusal is reported.
 #[derive(Clone, Copy, PartialEq, Eq, Debug)]
@@ -58,12 +58,28 @@ pub enum DocumentFault {
     NoRoom(usize),
 }
 
+// A question or a write that a store refuses.
+#[derive(Clone, Copy, PartialEq, Eq, Debug)]
+pub enum StoreFault {
+    // The node is not well formed, or a name is 0.
+    Misformed,
+    // The identifier is there already.
+    Known,
+    // No node has the identifier.
+    Absent,
+    // The node cannot stand there, or cannot be changed so.
+    Unsuited,
+    // The store has as many nodes as room.
+    Full,
+}
+
 // A refusal of any layer, as a session meets it.
 #[derive(Clone, Copy, PartialEq, Eq, Debug)]
 pub enum Fault {
     File(FileFault),
     List(ListFault),
     Document(DocumentFault),
+    Store(StoreFault),
 }
 
 pub impl From<FileFault> for Fault as FaultFromFile {
@@ -87,6 +103,14 @@ pub impl From<DocumentFault> for Fault as FaultFromDocument {
 
     fn from(value: DocumentFault) -> Fault {
         Fault::Document(value)
+    }
+}
+
+pub impl From<StoreFault> for Fault as FaultFromStore {
+    ghost converts = { λ f r. r ≡ Store f };
+
+    fn from(value: StoreFault) -> Fault {
+        Fault::Store(value)
     }
 }
 
@@ -137,6 +161,20 @@ impl DocumentFault {
     }
 }
 
+impl StoreFault {
+    pub fn report(self) -> Report
+        ensures { λ r. ⌜ r ≡ told-store self ⌝ }
+    {
+        match self {
+            StoreFault::Misformed => Report::new(3, 4, 0),
+            StoreFault::Known => Report::new(8, 4, 0),
+            StoreFault::Absent => Report::new(11, 4, 0),
+            StoreFault::Unsuited => Report::new(12, 4, 0),
+            StoreFault::Full => Report::new(15, 4, 0),
+        }
+    }
+}
+
 impl Fault {
     pub fn report(self) -> Report
         ensures { λ r. ⌜ r ≡ told self ⌝ }
@@ -145,6 +183,7 @@ impl Fault {
             Fault::File(f) => f.report(),
             Fault::List(f) => f.report(),
             Fault::Document(f) => f.report(),
+            Fault::Store(f) => f.report(),
         }
     }
 }

@@ -1,0 +1,4 @@
+pub mod Moves
+pub mod Comparing
+pub mod Orders
+pub mod Lookups

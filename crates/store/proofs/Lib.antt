@@ -1,0 +1,9 @@
+pub mod Along
+pub mod Places
+pub mod Shapes
+pub mod Planting
+pub mod Puts
+pub mod Takes
+pub mod Edits
+pub mod Questions
+pub mod Neighbours
