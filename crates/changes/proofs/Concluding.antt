@@ -39,6 +39,11 @@ pub own-reduced : (m : MarkedForest) → ((t : ℕ) → count t (unmark m) ≤ 1
 unfolding reduced
 own-reduced m c e = ap (λ x. changes-in-order (reduced-marks x)) (marks-back m c) ∙ ap changes-in-order e
 
+-- reduced marks and their changes have one inverse
+same-inverse : (m : MarkedForest) → ((t : ℕ) → count t (unmark m) ≤ 1) → reduced-marks m ≡ m → inverse (unmark m) (changes-in-order m) ≡ changes-in-order (inverse-marks m)
+unfolding inverse
+same-inverse m c e = ap (λ x. changes-in-order (inverse-marks (reduced-marks x))) (marks-back m c) ∙ ap (λ x. changes-in-order (inverse-marks x)) e
+
 -- the root of a document stays, in the reduced and in the inverse marks
 reduced-root : (d : Forest) (l : List Change) → OneElement d → Each (ChangePasses d) l → RootKept (reduced-marks (mark l d))
 reduced-root nil l o h = tt
@@ -119,6 +124,13 @@ module _ (room : ℕ) (d : Forest) (l : List Change) (w : WellFormed d) (s : Sui
   -- the reduced list
   pub reduced-own : reduced d (reduced d l) ≡ reduced d l
   reduced-own = rw list-m (rw unmark-m at (own-reduced m m-single m-reduced))
+
+  list-inverse : inverse d l ≡ changes-in-order (inverse-marks m)
+  unfolding inverse m reduced-of
+  list-inverse = refl
+
+  pub inverse-of-reduced : inverse d (reduced d l) ≡ inverse d l
+  inverse-of-reduced = ap (inverse d) list-m ∙ (rw unmark-m at (same-inverse m m-single m-reduced)) ∙ sym list-inverse
 
   m-once : (t : ℕ) → count t d + count-nodes t (changes-in-order m) ≤ 1
   unfolding m

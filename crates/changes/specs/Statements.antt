@@ -46,10 +46,10 @@ Reduced-suits = Suiting (λ room d l. Suits room d (reduced d l))
 abbrev pub Reduced-is-its-own : Type 0
 Reduced-is-its-own = Suiting (λ room d l. reduced d (reduced d l) ≡ reduced d l)
 
--- the reduced list is what the four rules make of the list, one after the other: drop the overridden changes, let an empty
--- replacement be a deletion, gather the insertions of each gap, put all in order
-abbrev pub Reduced-follows-the-rules : Type 0
-Reduced-follows-the-rules = (d : Forest) (l : List Change) → ((t : ℕ) → count t d ≤ 1)
+-- the reduced list comes from the changes that are not overridden: an empty replacement is a deletion, the insertions of each gap
+-- are gathered, and all is put in order
+abbrev pub Reduced-is-gathered-from-what-is-not-overridden : Type 0
+Reduced-is-gathered-from-what-is-not-overridden = (d : Forest) (l : List Change) → ((t : ℕ) → count t d ≤ 1)
     → reduced d l ≡ changes-in-order (gathered-by-gap (empty-replacements-deleted (mark (not-overridden d l) d)) nil)
 
 -- a change is dropped exactly when one of the overriding rules names it
@@ -70,6 +70,10 @@ Tables-of-changes = (room : ℕ) (d : Forest) (l : List Change) → Suits room d
 abbrev pub Changes-of-tables : Type 0
 Changes-of-tables = (room : ℕ) (d : Forest) (ops : List Operation) (xs : List Node) → ((t : ℕ) → count t d ≤ 1) → list-test room d ops xs ≡ None
     → Suits room d (changes-of ops xs) × (operation-rows (changes-of ops xs) ≡ ops) × (node-rows (changes-of ops xs) ≡ xs)
+
+-- the inverse list comes from the reduced list: that of the list and that of its reduced list are one
+abbrev pub Inverse-of-reduced : Type 0
+Inverse-of-reduced = Suiting (λ room d l. inverse d (reduced d l) ≡ inverse d l)
 
 -- the inverse list leads back
 abbrev pub Inverse-leads-back : Type 0

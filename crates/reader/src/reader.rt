@@ -2,8 +2,13 @@
 ghost use mathlib.Core.Path.{_≡_};
 ghost use Prim.Native.Nat.{_/_, _≤_, max};
 ghost use lib.ListN.{length};
+ghost use mathlib.Core.Bool.{true};
+ghost use Rattle.std.specs.Results.{Cases, isOk};
+ghost use Rattle.std.specs.declared.result.Result.the-variants.{Err};
+ghost use Rattle.reader.specs.Reading.{list-tested};
 ghost use Rattle.reader.specs.Handed.{step-of, seen, place-after};
 use crate::bytes::record_at;
+use crate::lists::test_list;
 use crate::reading::is_ill_built;
 use faults::FileFault;
 use records::Operation;
@@ -39,11 +44,12 @@ pub struct ListReader<'a> {
 }
 
 impl<'a> ListReader<'a> {
-    pub fn new(bytes: &'a [u8]) -> ListReader<'a>
-        ensures whole { λ r. ⌜ now (r .bytes) ≡ now (bytes .entry) ⌝ }
-        ensures start { λ r. ⌜ r .place ≡ 0 ⌝ }
+    // A reader of a file that passes the tests, before its first operation.
+    pub fn new(bytes: &'a [u8]) -> Result<ListReader<'a>, FileFault>
+        ensures { λ r. ⌜ Cases r (λ x. (now (x .bytes) ≡ now (bytes .entry)) × (x .place ≡ 0) × (isOk (list-tested (now (bytes .entry))) ≡ true)) (λ e. list-tested (now (bytes .entry)) ≡ Err e) ⌝ }
     {
-        ListReader { bytes, place: 0 }
+        test_list(bytes)?;
+        Ok(ListReader { bytes, place: 0 })
     }
 
     // The next operation with its part of the file and its place; a fault leaves the reader where it is.

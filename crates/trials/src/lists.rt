@@ -141,7 +141,7 @@ fn a_list_is_read_and_written_back(rt: LibcRuntime) -> Result<(), Fail> {
 #[test]
 fn the_reader_hands_out_parts(rt: LibcRuntime) -> Result<(), Fail> {
     let bytes = file(rt.alloc(), &change())?;
-    let mut reader = ListReader::new(bytes.as_slice());
+    let mut reader = ListReader::new(bytes.as_slice())?;
     let (first, none, _) = reader.next()?.ok_or("no first operation")?;
     check_eq(first.code, Code::Delete)?;
     check_eq(none.len(), 0)?;
@@ -153,5 +153,8 @@ fn the_reader_hands_out_parts(rt: LibcRuntime) -> Result<(), Fail> {
     let (_, two, place) = reader.next()?.ok_or("no third operation")?;
     check_eq(place, 3)?;
     check_eq(two.len(), 32)?;
-    check(reader.next()?.is_none())
+    check(reader.next()?.is_none())?;
+    check(bytes.len() == 96)?;
+    check(ListReader::new(&bytes[0..95]).is_err())?;
+    check(ListReader::new(&bytes[0..80]).is_err())
 }
