@@ -60,7 +60,7 @@ abbrev pub not-overridden : Forest → List Change → List Change
 not-overridden d l = left-behind d l [] l
 
 -- The rules in words.
--- whether t stands below s: among its attributes, or among its children and all below them; or below its children alone
+-- whether t stands below s: among its attributes, or among its children and all below them; or among its children and below them alone
 abbrev pub stands-below : ℕ → ℕ → Forest → Bool
 stands-below s t nil = false
 stands-below s t (node r as′ k f) =

@@ -65,7 +65,7 @@ abbrev pub left-on-labels : List MarkedLabel → List MarkedLabel
 left-on-labels [] = []
 left-on-labels (m ∷ l) = record { label = m .label; changes = left-on-node (m .changes) } ∷ left-on-labels l
 
--- replaced content overrides all below the children, but nothing on the attributes
+-- replaced content overrides all on the children and below them, but nothing on the attributes
 abbrev pub without-overridden : MarkedForest → MarkedForest
 without-overridden no-marks = no-marks
 without-overridden (marked r a as′ k f) =

@@ -149,7 +149,7 @@ only-once Rename = true
 abbrev pub second-of-code : List Change → Change → Bool
 second-of-code e o = only-once (o .code) && is-some (first-of (o .code) (changes-on (o .target) e))
 
--- TEST 14: a change that is not overridden gives an element an attribute name that it has in the document, or got from an earlier one
+-- TEST 14: a change that is not overridden gives an element an attribute name that it has in the document, or got from an earlier one or this one
 -- names as pairs of the element and the name
 abbrev pub names-on : ℕ → List Label → List (ℕ × ℕ)
 names-on p [] = []

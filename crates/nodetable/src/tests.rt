@@ -61,7 +61,7 @@ fn test_in(room: usize, nodes: &[Node], slots: &mut [Slot]) -> Result<(), Docume
     Ok(())
 }
 
-// Whether a table lists one document that fits the room. The slots must be as many as the nodes.
+// Whether a table lists one document that fits the room. The slots must be at least as many as the nodes.
 pub fn test_table(room: usize, nodes: &[Node], slots: &mut [Slot]) -> Result<(), DocumentFault>
     ensures value { λ r. ⌜ r ≡ tested (length (now (slots .entry))) room (now (nodes .entry)) ⌝ }
     ensures zeroed { λ _. ⌜ now (slots .exit) ≡ cleared (now (slots .entry)) ⌝ }

@@ -60,7 +60,7 @@ fn spells_due(due: usize, found: Record) -> bool
     }
 }
 
-// The first misformed record, where `due` nodes come first.
+// The first misformed record, where so many nodes come first.
 pub fn first_misformed(bytes: &[u8], nodes_first: usize) -> Option<usize>
     ensures { λ r. ⌜ r ≡ misformed-from «nodes_first» 0 (records (now (bytes .entry))) ⌝ }
 {
