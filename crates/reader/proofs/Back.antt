@@ -45,7 +45,7 @@ module _ (d n : ℕ) (r : Record) (rs : List Record) where
   nodes-suc = rw (due-more d, one-less d)
 
 -- one record of well-formed records
-record-step : {Y : Type 0} (n : ℕ) (x : Option Y) (later : Option ℕ) → cond (isSome x) later (Some n) ≡ None → (y : Y) × (x ≡ Some y) × (later ≡ None)
+pub record-step : {Y : Type 0} (n : ℕ) (x : Option Y) (later : Option ℕ) → cond (isSome x) later (Some n) ≡ None → (y : Y) × (x ≡ Some y) × (later ≡ None)
 record-step n None later e = absurd (some-none n e)
 record-step n (Some y) later e = (y, refl, e)
 
@@ -80,7 +80,7 @@ nodes-back (suc d) n (r ∷ rs) h m =
     ∙ (λ i. node-back r (s .0) (s .1) i ∷ nodes-back d (n + 1) rs (omega arith) (s .2) i)
 
 -- no operation counts past the end
-built : (n : ℕ) (r : Record) (rs : List Record) → structure-from zero n (r ∷ rs) ≡ None → (r .link ≤ length rs) × (structure-from (r .link) (n + 1) rs ≡ None)
+pub built : (n : ℕ) (r : Record) (rs : List Record) → structure-from zero n (r ∷ rs) ≡ None → (r .link ≤ length rs) × (structure-from (r .link) (n + 1) rs ≡ None)
 built n r rs s = go (ltb (length rs) (r .link)) refl (isSome (kind-of (r .tag))) refl
   where
     go : (b : Bool) → ltb (length rs) (r .link) ≡ b → (k : Bool) → isSome (kind-of (r .tag)) ≡ k → (r .link ≤ length rs) × (structure-from (r .link) (n + 1) rs ≡ None)

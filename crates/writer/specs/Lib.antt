@@ -1,3 +1,4 @@
 pub mod Scans
 pub mod Writing
 pub mod ReadBack
+pub mod Accepted
