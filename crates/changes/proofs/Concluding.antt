@@ -19,7 +19,10 @@ use Rattle.changes.specs.Overriding.{empty-replacements-deleted, not-overridde
 use Rattle.changes.specs.Tests.{Suits, room-lacks}
 use Rattle.changes.specs.Order.{InOrder, count-changes}
 use Rattle.changes.proofs.Reading.{marks-back}
-use Rattle.changes.proofs.Settling.{reduced-again, inverse-reduced}
+use Rattle.changes.proofs.Settling.{reduced-again, inverse-reduced, inverse-gathered}
+use Rattle.changes.proofs.Inverting.{gathered-all}
+use Rattle.changes.proofs.Gapping.{of-marks}
+use Rattle.changes.specs.Order.{AllBehindOrFirst}
 use Rattle.changes.proofs.Stages.{stages, level-tidy}
 use Rattle.changes.proofs.Weighing.{weigh, each, brought, size-weigh, size-nodes-weigh, weigh-in-order}
 use Rattle.changes.proofs.Dropping.{dropped-same}
@@ -222,6 +225,10 @@ module _ (room : ℕ) (d : Forest) (l : List Change) (w : WellFormed d) (s : Sui
   inv-root : RootKept inv
   unfolding inv
   inv-root = inverse-root m (rw unmark-m (w .root)) m-root
+
+  pub inserts-by-gap : AllBehindOrFirst (reduced d l) × AllBehindOrFirst (inverse d l)
+  unfolding m reduced-of inv
+  inserts-by-gap = (rw list-m (of-marks m (gathered-all (without-overridden (mark l d)) nil) m-fits), rw list-inv (of-marks inv (inverse-gathered m) inv-fits))
 
   pub inverse-own : reduced (apply l d) (inverse d l) ≡ inverse d l
   inverse-own = rw list-inv (rw unmark-inv at (own-reduced inv inv-single inv-reduced))

@@ -19,6 +19,7 @@ pub mod Returning
 pub mod Suiting
 pub mod Granting
 pub mod Ordering
+pub mod Gapping
 pub mod Concluding
 pub mod Tabling
 pub mod Passage

@@ -3,11 +3,12 @@ use Prim.Native.Nat.{ℕ, _+_, _<_}
 use mathlib.Core.Path.{_≡_}
 use mathlib.Core.Logic.{_⊎_}
 use mathlib.Core.List.{List, [], _∷_}
-use mathlib.Core.Bool.{cond, _&&_}
+use mathlib.Core.Bool.{Bool, true, false, cond, _&&_}
 use lib.Dec.{eqb}
 use Rattle.records.specs.Formed.{code-number}
 use Rattle.records.specs.declared.nodes.Node.{Node}
 use Rattle.records.specs.declared.operations.Code.{Code}
+use Rattle.records.specs.declared.operations.Code.the-variants.{InsertBefore, InsertAfter, InsertFirst, InsertInto, InsertLast, InsertAttributes, Delete, ReplaceNode, ReplaceValue, ReplaceContent, Rename}
 use Rattle.document.specs.Tree.{Forest, one}
 use Rattle.document.specs.Listing.{listing}
 use Rattle.changes.specs.Changes.{Change, same-code}
@@ -36,3 +37,21 @@ InOrder d (o ∷ l) = PrecedesAll d o l × InOrder d l
 abbrev pub count-changes : ℕ → Code → List Change → ℕ
 count-changes t c [] = 0
 count-changes t c (o ∷ l) = one (same-code (o .code) c && eqb (o .target) t) + count-changes t c l
+
+-- insertions among children stand behind a child or first in their element: the codes that put nodes elsewhere do not occur
+abbrev pub inserts-behind-or-first : Code → Bool
+inserts-behind-or-first InsertBefore = false
+inserts-behind-or-first InsertAfter = true
+inserts-behind-or-first InsertFirst = true
+inserts-behind-or-first InsertInto = false
+inserts-behind-or-first InsertLast = false
+inserts-behind-or-first InsertAttributes = true
+inserts-behind-or-first Delete = true
+inserts-behind-or-first ReplaceNode = true
+inserts-behind-or-first ReplaceValue = true
+inserts-behind-or-first ReplaceContent = true
+inserts-behind-or-first Rename = true
+
+abbrev pub AllBehindOrFirst : List Change → Type 0
+AllBehindOrFirst [] = Unit {0}
+AllBehindOrFirst (o ∷ l) = (inserts-behind-or-first (o .code) ≡ true) × AllBehindOrFirst l

@@ -16,7 +16,7 @@ use Rattle.changes.specs.Inverse.{inverse}
 use Rattle.changes.specs.Overriding.{overridden, OverridingRule, not-overridden, empty-replacements-deleted}
 use Rattle.changes.specs.Tests.{Suits}
 use Rattle.changes.specs.Tables.{operation-rows, node-rows, changes-of, list-test}
-use Rattle.changes.specs.Order.{InOrder, count-changes}
+use Rattle.changes.specs.Order.{InOrder, count-changes, AllBehindOrFirst}
 use Rattle.changes.specs.Cases.{cases, outcome-of, expected, table-cases, table-outcome, table-expected}
 
 -- each worked case comes out as said
@@ -93,3 +93,7 @@ Inverse-is-in-order = Suiting (λ room d l. InOrder (apply l d) (inverse d l) ×
 -- so where a list had room, its inverse has room
 abbrev pub Nodes-balance : Type 0
 Nodes-balance = Suiting (λ room d l. size (apply l d) + size-nodes (inverse d l) ≡ size d + size-nodes (reduced d l))
+
+-- in the reduced and in the inverse list nodes are inserted among children only behind a child or first in an element
+abbrev pub Inserts-behind-or-first : Type 0
+Inserts-behind-or-first = Suiting (λ room d l. AllBehindOrFirst (reduced d l) × AllBehindOrFirst (inverse d l))

@@ -1,5 +1,5 @@
 // What a change list does to a document: the definitions stand in specs/, the theorems on the contracts below.
-ghost use Rattle.changes.specs.Statements.{Cases-come-out, Tables-of-changes, Changes-of-tables, Stages-are-one-pass, Changed-is-well-formed, Reduced-leads-to-the-same, Reduced-suits, Reduced-is-its-own, Reduced-is-gathered-from-what-is-not-overridden, Overridden-by-the-rules, Reduced-is-in-order, Inverse-of-reduced, Inverse-leads-back, Inverse-suits, Inverse-is-its-own, Inverse-is-in-order, Nodes-balance};
+ghost use Rattle.changes.specs.Statements.{Cases-come-out, Tables-of-changes, Changes-of-tables, Stages-are-one-pass, Changed-is-well-formed, Reduced-leads-to-the-same, Reduced-suits, Reduced-is-its-own, Reduced-is-gathered-from-what-is-not-overridden, Overridden-by-the-rules, Reduced-is-in-order, Inverse-of-reduced, Inverse-leads-back, Inverse-suits, Inverse-is-its-own, Inverse-is-in-order, Nodes-balance, Inserts-behind-or-first};
 
 pub fn worked_cases_come_out()
     ensures { λ _. ⌜ Cases-come-out ⌝ }
@@ -67,4 +67,8 @@ pub fn inverse_list_is_in_order()
 
 pub fn nodes_balance()
     ensures { λ _. ⌜ Nodes-balance ⌝ }
+{}
+
+pub fn reduced_and_inverse_insert_behind_or_first()
+    ensures { λ _. ⌜ Inserts-behind-or-first ⌝ }
 {}
