@@ -1,19 +1,24 @@
 -- A change at one node of a row of trees: what holds at the node, and is carried from the children and from the trees behind
 -- to the whole row, holds of the row.
-use Prim.Native.Nat.{ℕ, _+_, _<_, _≤_}
+use Prim.Native.Nat.{ℕ, _+_, _≤_}
 use mathlib.Core.Path.{_≡_, refl, sym, _∙_, ap}
 use mathlib.Core.List.{List, [], _∷_}
 use mathlib.Core.Bool.{Bool, true, false, cond}
 use lib.Dec.{eqb, ltb}
 use native.Mathlib.Omega.{arith}
+use Rattle.std.specs.Options.{mapped}
 use Rattle.std.specs.declared.option.Option.{Option}
 use Rattle.std.specs.declared.option.Option.the-variants.{Some, None}
-use Rattle.std.proofs.shelf.Tests.{eqb-true, ltb-true, ltb-false, lt-ltb}
+use Rattle.std.proofs.shelf.Tests.{ltb-true, ltb-false, lt-ltb}
 use Rattle.document.specs.Tree.{Label, Forest, nil, node, one, count-labels, count}
 use Rattle.document.proofs.Counting.{one-zero}
 use Rattle.store.specs.Views.{View, node-view, attribute-view, or-else, view-attribute, view-in}
 use Rattle.store.specs.Writes.{act}
 use Rattle.store.specs.Says.{is-there}
+
+pub mapped-else : (g : View → View) (o q : Option View) → mapped g (or-else o q) ≡ or-else (mapped g o) (mapped g q)
+mapped-else g None q = refl
+mapped-else g (Some v) q = refl
 
 -- a node is seen where its identifier stands
 there-labels : (t p : ℕ) (as′ : List Label) → is-there (view-attribute t p as′) ≡ ltb 0 (count-labels t as′)

@@ -1,10 +1,11 @@
 -- A node with another name or value.
-use Prim.Native.Nat.{ℕ, _+_, _<_, _≤_}
-use mathlib.Core.Path.{_≡_, refl, sym, _∙_, ap, subst}
+use Prim.Native.Nat.{ℕ, _+_}
+use mathlib.Core.Path.{_≡_, refl, sym, _∙_, ap}
 use mathlib.Core.List.{List, [], _∷_, _++_, map, map-append}
 use mathlib.Core.Bool.{Bool, true, false, cond, _&&_}
 use lib.Dec.{eqb, ltb}
 use native.Mathlib.Omega.{arith}
+use Rattle.std.specs.Options.{mapped}
 use Rattle.std.specs.declared.option.Option.{Option}
 use Rattle.std.specs.declared.option.Option.the-variants.{Some, None}
 use Rattle.std.specs.declared.result.Result.the-variants.{Ok, Err}
@@ -16,14 +17,15 @@ use Rattle.records.specs.declared.nodes.Kind.the-variants.{Element, Attribute, 
 use Rattle.records.specs.declared.nodes.Node.{Node}
 use Rattle.document.specs.Tree.{Label, Forest, nil, node, one, count-labels, count, size-labels, size, Above, Formed, Attributes}
 use Rattle.document.specs.Listing.{row, attribute-rows, rows, listing}
-use Rattle.faults.specs.declared.StoreFault.the-variants.{Misformed, Absent, Unsuited}
+use Rattle.faults.specs.declared.StoreFault.the-variants.{Misformed, Unsuited}
 use Rattle.store.specs.Kept.{Shaped, AtMostOne, Kept}
-use Rattle.store.specs.Views.{View, view, node-view, view-attribute, view-in}
-use Rattle.store.specs.Writes.{act, named, valued, edit-labels, edit-tree, edited}
-use Rattle.store.specs.Says.{Answer, after, is-element, is-text, rename-of, rename-says, rename-leaves, set-value-of, set-value-says, set-value-leaves}
+use Rattle.store.specs.Views.{View, view, first-of, first-label, or-else, attribute-view, node-view, view-attribute, view-in}
+use Rattle.store.specs.Writes.{named, valued, edit-labels, edit-tree, edited}
+use Rattle.store.specs.Says.{Answer, after, is-element, is-text, rename-of, set-value-of}
 use Rattle.store.specs.Listed.{renamed-row, revalued-row}
+use Rattle.store.specs.Links.{reshown, Rename-reshows, Set-value-reshows}
 use Rattle.store.specs.Statements.{Rename-changes-one, Set-value-changes-one, Rename-keeps, Set-value-keeps}
-use Rattle.store.proofs.Along.{Steps, along}
+use Rattle.store.proofs.Along.{Steps, along, mapped-else}
 use Rattle.store.proofs.Shapes.{label-kind, holds-others, holds-other-labels}
 
 -- identifiers and kinds stay
@@ -73,6 +75,62 @@ module _ (t : ℕ) (e : Label → Label) (same : Edit e) where
         ∙ ap (λ (i : ℕ). row p (edit-label r) ∷ (attribute-rows i (edit-labels t e as′) ++ (rows i (edited t e k) ++ rows p (edited t e f)))) (label-id r) in
         let w : map E (rows p (node r as′ k f)) ≡ E (row p r) ∷ (map E A ++ (map E K ++ map E F)) = rw (map-append E A (K ++ F), map-append E K F) in
         u ∙ rw (rows-same p r, edited-labels (r .id) as′, edited-rows (r .id) k, edited-rows p f) (sym w)
+
+    -- the views, one by one
+    first-edited : (d : Forest) → first-of (edited t e d) ≡ first-of d
+    first-edited nil = refl
+    first-edited (node r as′ k f) = ap first-of (edited-node r as′ k f) ∙ label-id r
+
+    first-label-edited : (as′ : List Label) → first-label (edit-labels t e as′) ≡ first-label as′
+    first-label-edited [] = refl
+    first-label-edited (r ∷ l) = label-id r
+
+    attribute-reshown : (q : ℕ) (r : Label) (l : List Label) → attribute-view q (edit-label r) (edit-labels t e l) ≡ reshown E (attribute-view q r l)
+    attribute-reshown q r l =
+        ap (λ (x : Node). attribute-seen x (first-label (edit-labels t e l))) (rows-same q r) ∙ ap (λ (i : ℕ). attribute-seen (E (row q r)) i) (first-label-edited l)
+      where
+        attribute-seen : Node → ℕ → View
+        attribute-seen x i = record { row = x; left = 0; first-child = 0; next-sibling = 0; first-attribute = 0; next-attribute = i }
+
+    node-reshown : (p l : ℕ) (r : Label) (as′ : List Label) (k f : Forest) → node-view p l (edit-label r) (edit-labels t e as′) (edited t e k) (edited t e f) ≡ reshown E (node-view p l r as′ k f)
+    node-reshown p l r as′ k f =
+        ap (λ (x : Node). node-seen x (first-of (edited t e k)) (first-of (edited t e f)) (first-label (edit-labels t e as′))) (rows-same p r)
+        ∙ ap (λ (i : ℕ). node-seen (E (row p r)) i (first-of (edited t e f)) (first-label (edit-labels t e as′))) (first-edited k)
+        ∙ ap (λ (i : ℕ). node-seen (E (row p r)) (first-of k) i (first-label (edit-labels t e as′))) (first-edited f)
+        ∙ ap (λ (i : ℕ). node-seen (E (row p r)) (first-of k) (first-of f) i) (first-label-edited as′)
+      where
+        node-seen : Node → ℕ → ℕ → ℕ → View
+        node-seen x i j m = record { row = x; left = l; first-child = i; next-sibling = j; first-attribute = m; next-attribute = 0 }
+
+    labels-reshown : (u q : ℕ) (as′ : List Label) → view-attribute u q (edit-labels t e as′) ≡ mapped (reshown E) (view-attribute u q as′)
+    labels-reshown u q [] = refl
+    labels-reshown u q (r ∷ l) =
+        ap (λ (i : ℕ). cond (eqb i u) (Some (attribute-view q (edit-label r) (edit-labels t e l))) (view-attribute u q (edit-labels t e l))) (label-id r)
+        ∙ go (eqb (r .id) u) (labels-reshown u q l)
+      where
+        go : (b : Bool) → view-attribute u q (edit-labels t e l) ≡ mapped (reshown E) (view-attribute u q l)
+            → cond b (Some (attribute-view q (edit-label r) (edit-labels t e l))) (view-attribute u q (edit-labels t e l)) ≡ mapped (reshown E) (cond b (Some (attribute-view q r l)) (view-attribute u q l))
+        go true h = ap Some (attribute-reshown q r l)
+        go false h = h
+
+    pub edited-views : (u p l : ℕ) (d : Forest) → view-in u p l (edited t e d) ≡ mapped (reshown E) (view-in u p l d)
+    edited-views u p l nil = refl
+    edited-views u p l (node r as′ k f) =
+        ap (λ (x : Forest). view-in u p l x) (edited-node r as′ k f)
+        ∙ ap (λ (i : ℕ). cond (eqb i u) (Some seen-here) (or-else (view-attribute u i (edit-labels t e as′)) (or-else (view-in u i 0 (edited t e k)) (view-in u p i (edited t e f))))) (label-id r)
+        ∙ go (eqb (r .id) u) (edited-views u (r .id) 0 k) (edited-views u p (r .id) f)
+      where
+        seen-here : View
+        seen-here = node-view p l (edit-label r) (edit-labels t e as′) (edited t e k) (edited t e f)
+
+        go : (b : Bool) → view-in u (r .id) 0 (edited t e k) ≡ mapped (reshown E) (view-in u (r .id) 0 k) → view-in u p (r .id) (edited t e f) ≡ mapped (reshown E) (view-in u p (r .id) f)
+            → cond b (Some seen-here) (or-else (view-attribute u (r .id) (edit-labels t e as′)) (or-else (view-in u (r .id) 0 (edited t e k)) (view-in u p (r .id) (edited t e f))))
+            ≡ mapped (reshown E) (cond b (Some (node-view p l r as′ k f)) (or-else (view-attribute u (r .id) as′) (or-else (view-in u (r .id) 0 k) (view-in u p (r .id) f))))
+        go true i j = ap Some (node-reshown p l r as′ k f)
+        go false i j =
+            rw (labels-reshown u (r .id) as′, i, j)
+            (sym (mapped-else (reshown E) (view-attribute u (r .id) as′) (or-else (view-in u (r .id) 0 k) (view-in u p (r .id) f))
+            ∙ ap (λ (o : Option View). or-else (mapped (reshown E) (view-attribute u (r .id) as′)) o) (mapped-else (reshown E) (view-in u (r .id) 0 k) (view-in u p (r .id) f))))
 
   -- identifiers and sizes
   count-edited-labels : (u : ℕ) (as′ : List Label) → count-labels u (edit-labels t e as′) ≡ count-labels u as′
@@ -166,23 +224,37 @@ valued-suits Text i nm vl w k s = s
 above-nothing : (m : ℕ) → eqb m 0 ≡ false → ltb 0 m ≡ true
 above-nothing m h = grind (arith, tells)
 
+named-row : (t m p : ℕ) (r : Label) → row p (edit-label t (named m) (naming m) r) ≡ renamed-row t m (row p r)
+named-row t m p r = go (eqb (r .id) t)
+  where
+    go : (b : Bool) → row p (cond b (named m r) r) ≡ cond b (row p (named m r)) (row p r)
+    go true = refl
+    go false = refl
+
+valued-row : (t v p : ℕ) (r : Label) → row p (edit-label t (valued v) (valuing v) r) ≡ revalued-row t v (row p r)
+valued-row t v p r = go (eqb (r .id) t)
+  where
+    go : (b : Bool) → row p (cond b (valued v r) r) ≡ cond b (row p (valued v r)) (row p r)
+    go true = refl
+    go false = refl
+
 pub rename-changes-one : Rename-changes-one
 unfolding listing
 rename-changes-one d t m h =
-    ap (λ (r : Answer). rows 0 (after r (edited t (named m) d) d)) h ∙ edited-rows t (named m) (naming m) (renamed-row t m) (λ p r. go p r (eqb (r .id) t)) 0 d
-  where
-    go : (p : ℕ) (r : Label) (b : Bool) → row p (cond b (named m r) r) ≡ cond b (row p (named m r)) (row p r)
-    go p r true = refl
-    go p r false = refl
+    ap (λ (r : Answer). rows 0 (after r (edited t (named m) d) d)) h ∙ edited-rows t (named m) (naming m) (renamed-row t m) (named-row t m) 0 d
+
+pub rename-reshows : Rename-reshows
+rename-reshows d t m h u =
+    ap (λ (r : Answer). view (after r (edited t (named m) d) d) u) h ∙ edited-views t (named m) (naming m) (renamed-row t m) (named-row t m) u 0 0 d
 
 pub set-value-changes-one : Set-value-changes-one
 unfolding listing
 set-value-changes-one d t v h =
-    ap (λ (r : Answer). rows 0 (after r (edited t (valued v) d) d)) h ∙ edited-rows t (valued v) (valuing v) (revalued-row t v) (λ p r. go p r (eqb (r .id) t)) 0 d
-  where
-    go : (p : ℕ) (r : Label) (b : Bool) → row p (cond b (valued v r) r) ≡ cond b (row p (valued v r)) (row p r)
-    go p r true = refl
-    go p r false = refl
+    ap (λ (r : Answer). rows 0 (after r (edited t (valued v) d) d)) h ∙ edited-rows t (valued v) (valuing v) (revalued-row t v) (valued-row t v) 0 d
+
+pub set-value-reshows : Set-value-reshows
+set-value-reshows d t v h u =
+    ap (λ (r : Answer). view (after r (edited t (valued v) d) d) u) h ∙ edited-views t (valued v) (valuing v) (revalued-row t v) (valued-row t v) u 0 0 d
 
 pub rename-keeps : Rename-keeps
 rename-keeps d t m kept = go (view d t) refl

@@ -7,3 +7,6 @@ pub mod Takes
 pub mod Edits
 pub mod Questions
 pub mod Neighbours
+pub mod Unlinking
+pub mod Linking
+pub mod Formed

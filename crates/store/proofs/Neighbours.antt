@@ -1,30 +1,29 @@
 -- The neighbours of a node, as the listing shows them.
-use Prim.Native.Nat.{ℕ, _+_, _<_, _≤_}
-use mathlib.Core.Path.{_≡_, refl, sym, _∙_, ap, subst}
+use Prim.Native.Nat.{ℕ, _+_, _≤_}
+use mathlib.Core.Path.{_≡_, refl, sym, _∙_, ap}
 use mathlib.Core.List.{List, [], _∷_, _++_, append-assoc, append-nil}
 use mathlib.Core.Bool.{Bool, true, false, cond, not, _&&_}
 use mathlib.Core.Logic.{_⊎_, inl, inr}
 use lib.Dec.{eqb}
 use lib.ListN.{length, take, drop, length-append}
 use native.Mathlib.Omega.{arith}
-use Rattle.std.specs.declared.option.Option.{Option}
-use Rattle.std.specs.declared.option.Option.the-variants.{Some, None}
+use Rattle.std.specs.declared.option.Option.the-variants.{Some}
 use Rattle.std.proofs.shelf.Tests.{eqb-true, eqb-false, eq-eqb, ne-eqb, both-ways, and-left}
 use Rattle.records.specs.declared.nodes.Kind.{Kind}
 use Rattle.records.specs.declared.nodes.Kind.the-variants.{Element, Attribute, Text}
 use Rattle.records.specs.declared.nodes.Node.{Node}
-use Rattle.document.specs.Tree.{Label, Forest, nil, node, one, count-labels, count, size, Attributes, Holds}
+use Rattle.document.specs.Tree.{Label, Forest, nil, node, one, count-labels, count, Attributes, Holds}
 use Rattle.document.specs.Listing.{row, attribute-rows, rows, listing}
 use Rattle.document.specs.Table.{is-attribute}
 use Rattle.document.proofs.Counting.{one-zero, one-refl, length-of-rows}
-use Rattle.store.specs.Kept.{Shaped, Kept}
-use Rattle.store.specs.Views.{View, view, first-of, first-label, attribute-view, node-view, view-attribute, view-in}
+use Rattle.store.specs.Kept.{Shaped}
+use Rattle.store.specs.Views.{View, first-of, first-label, attribute-view, node-view, view-attribute, view-in}
 use Rattle.store.specs.Writes.{act, unchanged}
-use Rattle.store.specs.Listed.{position, first-where, last-from, child-row, attribute-row, Shown}
+use Rattle.store.specs.Listed.{position, first-where, last-from, child-row, attribute-row}
 use Rattle.store.specs.Statements.{Neighbours-are-listed, Size-and-root-are-listed}
 use Rattle.store.proofs.Along.{Steps, along}
 use Rattle.store.proofs.Places.{take-front, drop-one-more, position-past, position-within, times-labels, times-rows}
-use Rattle.store.proofs.Shapes.{above-zero}
+use Rattle.store.proofs.Shapes.{no-zero}
 
 -- ---- lists in which no row passes a test
 
@@ -112,15 +111,6 @@ first-attribute-row p (r ∷ l) ys a b = rw (eq-eqb p p refl, a .0)
 
 differ : (u w : ℕ) (d : Forest) → count u d ≡ 0 → 1 ≤ count w d → u ≡ w → ⊥
 differ u w d z o e = let y : count w d ≡ 0 = rw (← e) z in omega arith
-
-no-zero-labels : (as′ : List Label) → Attributes as′ → count-labels 0 as′ ≡ 0
-no-zero-labels [] a = refl
-no-zero-labels (r ∷ l) a = rw (ne-eqb (r .id) 0 (λ e. omega (arith, above-zero r (a .1)))) (omega (arith, no-zero-labels l (a .2)))
-
-no-zero : (d : Forest) → Shaped d → count 0 d ≡ 0
-no-zero nil s = refl
-no-zero (node r as′ k f) s =
-    rw (ne-eqb (r .id) 0 (λ e. omega (arith, above-zero r (s .0)))) (omega (arith, no-zero-labels as′ (s .2), no-zero k (s .4), no-zero f (s .5)))
 
 -- ---- the node t in a row of trees below p, behind l
 

@@ -1,18 +1,17 @@
 -- A childless node put in: one row more, the shape kept, and taking the node out leads back.
-use Prim.Native.Nat.{ℕ, _+_, _<_, _≤_}
+use Prim.Native.Nat.{ℕ, _+_, _≤_}
 use mathlib.Core.Path.{_≡_, refl, sym, _∙_, ap, subst}
 use mathlib.Core.List.{List, [], _∷_, _++_}
 use mathlib.Core.Bool.{Bool, true, false, cond}
 use lib.Dec.{eqb, ltb}
-use lib.ListN.{length}
 use native.Mathlib.Omega.{arith}
 use Rattle.std.specs.declared.option.Option.{Option}
 use Rattle.std.specs.declared.option.Option.the-variants.{Some, None}
-use Rattle.std.specs.declared.result.Result.the-variants.{Ok, Err}
+use Rattle.std.specs.declared.result.Result.the-variants.{Ok}
 use Rattle.std.proofs.shelf.Tests.{eqb-true, eq-eqb, both-ways, ltb-true, le-ltb, lt-ltb}
-use Rattle.records.specs.declared.nodes.Kind.the-variants.{Element, Attribute, Text}
+use Rattle.records.specs.declared.nodes.Kind.the-variants.{Element, Attribute}
 use Rattle.records.specs.declared.nodes.Node.{Node}
-use Rattle.document.specs.Tree.{Label, Forest, nil, node, one, count-labels, count, size-labels, size, Above, Formed, Attributes, Holds}
+use Rattle.document.specs.Tree.{Label, Forest, nil, node, one, count-labels, count, Above, Formed}
 use Rattle.document.specs.Listing.{row, label, attribute-rows, rows}
 use Rattle.document.specs.Table.{is-attribute}
 use Rattle.document.proofs.Counting.{one-zero, length-attribute-rows, length-of-rows}

@@ -1,30 +1,28 @@
 -- A put that is accepted.
 use Prim.Native.Nat.{ℕ, _+_, _<_, _≤_}
 use mathlib.Core.Path.{_≡_, refl, sym, _∙_, ap, subst}
-use mathlib.Core.List.{List, [], _∷_, _++_}
+use mathlib.Core.List.{List, [], _∷_}
 use mathlib.Core.Bool.{Bool, true, false, cond, not, _&&_, _||_}
 use mathlib.Core.Logic.{_⊎_, inl, inr}
-use lib.Dec.{eqb, ltb}
-use lib.ListN.{length}
+use lib.Dec.{eqb}
 use native.Mathlib.Omega.{arith}
 use Rattle.std.specs.declared.option.Option.{Option}
 use Rattle.std.specs.declared.option.Option.the-variants.{Some, None}
 use Rattle.std.specs.declared.result.Result.the-variants.{Ok, Err}
-use Rattle.std.proofs.shelf.Tests.{eqb-true, eqb-false, eq-eqb, both-ways, and-parts, or-cases, not-true, not-false, ltb-false, cases-lt}
+use Rattle.std.proofs.shelf.Tests.{eqb-true, eqb-false, eq-eqb, both-ways, and-parts, or-cases, not-true, ltb-false, cases-lt}
 use Rattle.records.specs.Formed.{formed-node}
 use Rattle.records.specs.declared.nodes.Kind.{Kind}
 use Rattle.records.specs.declared.nodes.Kind.the-variants.{Element, Attribute, Text}
 use Rattle.records.specs.declared.nodes.Node.{Node}
-use Rattle.document.specs.Tree.{Label, Forest, nil, node, one, count-labels, count, size-labels, size, Formed}
+use Rattle.document.specs.Tree.{Label, Forest, nil, node, one, count, size}
 use Rattle.document.specs.Listing.{row, label, rows, listing}
 use Rattle.document.specs.Table.{is-attribute}
 use Rattle.document.proofs.Counting.{length-of-rows}
-use Rattle.faults.specs.declared.StoreFault.{StoreFault}
-use Rattle.faults.specs.declared.StoreFault.the-variants.{Misformed, Known, Absent, Unsuited, Full}
-use Rattle.store.specs.Kept.{Shaped, AtMostOne, Kept}
-use Rattle.store.specs.Views.{View, view, node-view, view-in}
+use Rattle.faults.specs.declared.StoreFault.the-variants.{Misformed, Known, Unsuited, Full}
+use Rattle.store.specs.Kept.{AtMostOne, Kept}
+use Rattle.store.specs.Views.{View, view, node-view}
 use Rattle.store.specs.Writes.{act, unchanged, with-first, with-behind, with-attribute, without, put-in}
-use Rattle.store.specs.Says.{Answer, after, is-element, is-there, is-element-there, is-child-of, fits-root, fits-below, fits, put-says, put-leaves, take-says, take-leaves}
+use Rattle.store.specs.Says.{Answer, after, is-element, is-there, is-element-there, is-child-of, fits-root, fits-below, fits, put-says, put-leaves, take-says}
 use Rattle.store.specs.Listed.{position, past-smaller, past-attributes, past-all, place-behind, put-place, read-at}
 use Rattle.store.specs.Statements.{Put-adds-one, Put-keeps, Take-undoes-put}
 use Rattle.store.proofs.Along.{there}
@@ -81,7 +79,7 @@ pub record Element-there (o : Option View) : Type 0 where
   pub element : v .row .kind ≡ Element
   pub child : is-attribute (v .row .kind) ≡ false
 
-element-there : (o : Option View) → is-element-there o ≡ true → Element-there o
+pub element-there : (o : Option View) → is-element-there o ≡ true → Element-there o
 element-there None e = absurd (both-ways false refl e)
 element-there (Some v) e = let k = element-kind (v .row .kind) e in record { v = v; at = refl; element = k .0; child = k .1 }
 
@@ -101,7 +99,7 @@ pub record Below-there (d : Forest) (n : Node) (l : ℕ) : Type 0 where
   pub parent : Element-there (view d (n .parent))
   pub left : (eqb l 0 || (not (is-attribute (n .kind)) && is-child-of (n .parent) (view d l))) ≡ true
 
-below-there : (d : Forest) (n : Node) (l : ℕ) → fits-below d n l ≡ true → Below-there d n l
+pub below-there : (d : Forest) (n : Node) (l : ℕ) → fits-below d n l ≡ true → Below-there d n l
 below-there d n l h =
     let t = and-parts (is-element-there (view d (n .parent))) (eqb l 0 || (not (is-attribute (n .kind)) && is-child-of (n .parent) (view d l))) h in
     record { parent = element-there (view d (n .parent)) (t .0); left = t .1 }
@@ -214,7 +212,7 @@ module _ (room : ℕ) (d : Forest) (n : Node) (l : ℕ) (kept : Kept d) (a : Acc
 
 -- ---- what the statements say
 
-leaves-accepted : (room : ℕ) (d : Forest) (n : Node) (l : ℕ) → put-says room d n l ≡ Ok tt → put-leaves room d n l ≡ put-in d n l
+pub leaves-accepted : (room : ℕ) (d : Forest) (n : Node) (l : ℕ) → put-says room d n l ≡ Ok tt → put-leaves room d n l ≡ put-in d n l
 leaves-accepted room d n l h = ap (λ (r : Answer). after r (put-in d n l) d) h
 
 pub put-adds-one : Put-adds-one

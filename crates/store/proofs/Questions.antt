@@ -1,5 +1,5 @@
 -- What is seen of a node is what the listing shows.
-use Prim.Native.Nat.{ℕ, _+_, _<_, _≤_}
+use Prim.Native.Nat.{ℕ}
 use mathlib.Core.Path.{_≡_, refl, sym, _∙_, ap}
 use mathlib.Core.List.{List, [], _∷_, _++_}
 use mathlib.Core.Bool.{Bool, true, false, cond}
@@ -7,13 +7,14 @@ use lib.Dec.{eqb}
 use native.Mathlib.Omega.{arith}
 use Rattle.std.specs.declared.option.Option.{Option}
 use Rattle.std.specs.declared.option.Option.the-variants.{Some, None}
-use Rattle.std.specs.declared.result.Result.the-variants.{Ok, Err}
+use Rattle.std.specs.declared.result.Result.the-variants.{Err}
+use Rattle.std.proofs.shelf.Tests.{eqb-true}
 use Rattle.records.specs.declared.nodes.Node.{Node}
-use Rattle.document.specs.Tree.{Label, Forest, nil, node, count}
+use Rattle.document.specs.Tree.{Label, Forest, nil, node}
 use Rattle.document.specs.Listing.{row, attribute-rows, rows, listing}
 use Rattle.faults.specs.declared.StoreFault.the-variants.{Absent}
 use Rattle.store.specs.Views.{View, view, asked, or-else, attribute-view, node-view, view-attribute, view-in}
-use Rattle.store.specs.Listed.{times, row-with, found}
+use Rattle.store.specs.Listed.{row-with, found}
 use Rattle.store.specs.Statements.{Record-is-listed, Absent-is-unlisted}
 use Rattle.store.proofs.Along.{absent, unseen}
 use Rattle.store.proofs.Places.{times-rows}
@@ -65,6 +66,18 @@ seen-row t p l (node r as′ k f) = go (eqb (r .id) t) (seen-row t (r .id) 0 k) 
         → row-of (cond b (Some (node-view p l r as′ k f)) (or-else (view-attribute t (r .id) as′) (or-else (view-in t (r .id) 0 k) (view-in t p (r .id) f)))) ≡ cond b (Some (row p r)) (row-with t (A ++ (K ++ F)))
     go true i j = refl
     go false i j = rest i j
+
+-- what is seen of t is t
+row-id : (t : ℕ) (xs : List Node) (x : Node) → row-with t xs ≡ Some x → x .id ≡ t
+row-id t [] x e = let z : _≡_ {A = ℕ} 0 1 = cc in absurd (omega arith)
+row-id t (y ∷ xs) x e = go (eqb (y .id) t) refl e (row-id t xs x)
+  where
+    go : (b : Bool) → eqb (y .id) t ≡ b → cond b (Some y) (row-with t xs) ≡ Some x → (row-with t xs ≡ Some x → x .id ≡ t) → x .id ≡ t
+    go true h e ih = let same : y ≡ x = cc in ap (λ (z : Node). z .id) (sym same) ∙ eqb-true (y .id) t h
+    go false h e ih = ih e
+
+pub seen-id : (t p l : ℕ) (d : Forest) (v : View) → view-in t p l d ≡ Some v → v .row .id ≡ t
+seen-id t p l d v e = row-id t (rows p d) (v .row) (sym (seen-row t p l d) ∙ ap row-of e)
 
 asked-row : (o : Option View) → asked (λ v. v .row) o ≡ found (row-of o)
 asked-row None = refl

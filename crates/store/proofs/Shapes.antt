@@ -2,12 +2,11 @@
 use Prim.Native.Nat.{ℕ, _+_, _<_, _≤_}
 use mathlib.Core.Path.{_≡_, refl, sym, _∙_, ap}
 use mathlib.Core.List.{List, [], _∷_}
-use mathlib.Core.Bool.{Bool, true, false, cond, _&&_}
+use mathlib.Core.Bool.{Bool, true, false, cond}
 use lib.Dec.{eqb, ltb}
 use native.Mathlib.Omega.{arith}
-use Rattle.std.specs.declared.option.Option.{Option}
-use Rattle.std.specs.declared.option.Option.the-variants.{Some, None}
-use Rattle.std.proofs.shelf.Tests.{ltb-true, and-parts, both-ways, eq-eqb}
+use Rattle.std.specs.declared.option.Option.the-variants.{Some}
+use Rattle.std.proofs.shelf.Tests.{ltb-true, and-parts, both-ways, eq-eqb, ne-eqb}
 use Rattle.std.proofs.shelf.Ways.{tells}
 use Rattle.records.specs.declared.nodes.Kind.{Kind}
 use Rattle.records.specs.declared.nodes.Kind.the-variants.{Element, Attribute, Text}
@@ -124,3 +123,13 @@ lacking-inserted x (r ∷ l) z = go (ltb (x .id) (r .id)) (lacking-inserted x l 
     go : (b : Bool) → lacking (x .id) (insert-label x l) ≡ l → lacking (x .id) (cond b (x ∷ (r ∷ l)) (r ∷ insert-label x l)) ≡ r ∷ l
     go true h = rw (eq-eqb (x .id) (x .id) refl) (lacking-none (x .id) (r ∷ l) z)
     go false h = rw (other, h)
+
+-- no node has the identifier 0
+pub no-zero-labels : (as′ : List Label) → Attributes as′ → count-labels 0 as′ ≡ 0
+no-zero-labels [] a = refl
+no-zero-labels (r ∷ l) a = rw (ne-eqb (r .id) 0 (λ e. omega (arith, above-zero r (a .1)))) (omega (arith, no-zero-labels l (a .2)))
+
+pub no-zero : (d : Forest) → Shaped d → count 0 d ≡ 0
+no-zero nil s = refl
+no-zero (node r as′ k f) s =
+    rw (ne-eqb (r .id) 0 (λ e. omega (arith, above-zero r (s .0)))) (omega (arith, no-zero-labels as′ (s .2), no-zero k (s .4), no-zero f (s .5)))

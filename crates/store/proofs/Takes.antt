@@ -1,28 +1,27 @@
 -- A node taken out: one row fewer, and the shape kept.
-use Prim.Native.Nat.{ℕ, _+_, _<_, _≤_}
-use mathlib.Core.Path.{_≡_, refl, sym, _∙_, ap, subst}
+use Prim.Native.Nat.{ℕ, _+_, _≤_}
+use mathlib.Core.Path.{_≡_, refl, sym, _∙_, ap}
 use mathlib.Core.List.{List, [], _∷_, _++_}
-use mathlib.Core.Bool.{Bool, true, false, cond, _&&_}
+use mathlib.Core.Bool.{Bool, true, false, cond}
 use lib.Dec.{eqb}
-use lib.ListN.{length}
 use native.Mathlib.Omega.{arith}
 use Rattle.std.specs.declared.option.Option.{Option}
 use Rattle.std.specs.declared.option.Option.the-variants.{Some, None}
 use Rattle.std.specs.declared.result.Result.the-variants.{Ok, Err}
-use Rattle.std.proofs.shelf.Tests.{eqb-true, and-parts}
-use Rattle.records.specs.declared.nodes.Node.{Node}
+use Rattle.std.proofs.shelf.Tests.{eqb-true, eq-eqb, and-parts}
 use Rattle.document.specs.Tree.{Label, Forest, nil, node, one, count-labels, count, size}
 use Rattle.document.specs.Listing.{row, attribute-rows, rows, listing}
 use Rattle.document.proofs.Counting.{length-of-rows}
 use Rattle.faults.specs.declared.StoreFault.the-variants.{Unsuited}
 use Rattle.store.specs.Kept.{Shaped, AtMostOne, Kept}
 use Rattle.store.specs.Views.{View, view, attribute-view, node-view, view-attribute, view-in}
-use Rattle.store.specs.Writes.{act, lacking, without-tree, without}
+use Rattle.store.specs.Writes.{lacking, without-tree, without}
 use Rattle.store.specs.Says.{Answer, after, is-bare, take-of, take-says, take-leaves}
 use Rattle.store.specs.Listed.{position}
 use Rattle.store.specs.Statements.{Take-removes-one, Take-keeps}
 use Rattle.store.proofs.Along.{Steps, along}
 use Rattle.store.proofs.Places.{OneMore, more-here, more-behind, more-before, more-at, more-removed, more-length, more-times, position-past, position-within, times-labels, times-rows}
+use Rattle.store.proofs.Questions.{seen-id}
 use Rattle.store.proofs.Shapes.{no-first, no-label, holds-others, holds-other-labels, attributes-fewer, above-fewer, lacking-none}
 
 -- d′ is d, below p, without the node that v shows, which stood at place i of the rows
@@ -51,7 +50,7 @@ module _ (t : ℕ) (v : View) (bare : is-bare v ≡ true) where
   abbrev Claim : ℕ → ℕ → Forest → Forest → Type 0
   Claim p l d d′ = Shaped d → Uprooted v p d d′ (position t (rows p d))
 
-  bare-node : (p l : ℕ) (r : Label) (as′ : List Label) (k f : Forest) → v ≡ node-view p l r as′ k f → Shaped (node r as′ k f) → (as′ ≡ []) × (k ≡ nil)
+  pub bare-node : (p l : ℕ) (r : Label) (as′ : List Label) (k f : Forest) → v ≡ node-view p l r as′ k f → Shaped (node r as′ k f) → (as′ ≡ []) × (k ≡ nil)
   bare-node p l r as′ k f w s =
       let b = and-parts (eqb (v .first-child) 0) (eqb (v .first-attribute) 0) bare in
       let c : v .first-child ≡ 0 = eqb-true (v .first-child) 0 (b .0) in
@@ -134,7 +133,7 @@ accepted d t h = go (view d t) refl h
     go None e h = let z : _≡_ {A = ℕ} 0 1 = cc in absurd (omega arith)
     go (Some v) e h = record { v = v; at = e; bare = bare-from (is-bare v) h }
 
-leaves-accepted : (d : Forest) (t : ℕ) → take-says d t ≡ Ok tt → take-leaves d t ≡ without t d
+pub leaves-accepted : (d : Forest) (t : ℕ) → take-says d t ≡ Ok tt → take-leaves d t ≡ without t d
 leaves-accepted d t h = ap (λ (r : Answer). after r (without t d) d) h
 
 still-one : (t : ℕ) (d : Forest) → AtMostOne d → AtMostOne (without t d)
@@ -145,6 +144,15 @@ still-one t (node r as′ k nil) h = go (eqb (r .id) t)
     go : (b : Bool) → AtMostOne (cond b nil (node r (lacking t as′) (without t k) nil))
     go true = tt
     go false = h
+
+-- the node is gone
+pub take-count : (d : Forest) (t : ℕ) → Kept d → take-says d t ≡ Ok tt → count t (without t d) ≡ 0
+take-count d t kept h =
+    let a = accepted d t h in
+    let u = uprooted t (a .v) (a .bare) d 0 0 (kept .distinct t) (a .at) (kept .shaped) in
+    let m = more-times t (rows 0 (without t d)) (rows 0 d) (position t (rows 0 d)) (a .v .row) (u .fewer) in
+    let here : one (eqb (a .v .row .id) t) ≡ 1 = rw (eq-eqb (a .v .row .id) t (seen-id t 0 0 d (a .v) (a .at))) in
+    omega (arith, m, kept .distinct t, times-rows t 0 d, times-rows t 0 (without t d))
 
 pub take-removes-one : Take-removes-one
 unfolding listing

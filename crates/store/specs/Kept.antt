@@ -2,7 +2,7 @@
 use Prim.Native.Nat.{ℕ, _≤_}
 use mathlib.Core.Path.{_≡_}
 use Rattle.records.specs.declared.nodes.Kind.the-variants.{Element}
-use Rattle.document.specs.Tree.{Forest, nil, node, count, Above, Formed, Attributes, Holds}
+use Rattle.document.specs.Tree.{Forest, nil, node, count, count-names, Above, Formed, Attributes, Holds}
 
 -- every node of a row of trees has the parts that its kind allows, and its attributes stand in ascending identifiers
 abbrev pub Shaped : Forest → Type 0
@@ -19,3 +19,8 @@ pub record Kept (d : Forest) : Type 0 where
   pub root : AtMostOne d
   pub shaped : Shaped d
   pub distinct : (t : ℕ) → count t d ≤ 1
+
+-- no element has two attributes of one name
+abbrev pub NamesOnce : Forest → Type 0
+NamesOnce nil = Unit {0}
+NamesOnce (node r as′ k f) = ((t : ℕ) → count-names t as′ ≤ 1) × NamesOnce k × NamesOnce f

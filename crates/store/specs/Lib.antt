@@ -4,3 +4,4 @@ pub mod Writes
 pub mod Says
 pub mod Listed
 pub mod Statements
+pub mod Links

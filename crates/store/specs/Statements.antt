@@ -1,5 +1,5 @@
 -- What the writes do to the document-order listing, and what the answers show of it.
-use Prim.Native.Nat.{ℕ, _+_, _<_, _≤_}
+use Prim.Native.Nat.{ℕ, _<_, _≤_}
 use mathlib.Core.Path.{_≡_}
 use mathlib.Core.List.{map}
 use mathlib.Core.Bool.{true}
@@ -7,10 +7,10 @@ use lib.ListN.{length}
 use Rattle.std.specs.declared.option.Option.the-variants.{Some}
 use Rattle.std.specs.declared.result.Result.the-variants.{Ok, Err}
 use Rattle.records.specs.declared.nodes.Node.{Node}
-use Rattle.document.specs.Tree.{Forest, size}
+use Rattle.document.specs.Tree.{Forest, nil, size, WellFormed}
 use Rattle.document.specs.Listing.{listing}
 use Rattle.faults.specs.declared.StoreFault.the-variants.{Absent}
-use Rattle.store.specs.Kept.{Kept}
+use Rattle.store.specs.Kept.{Kept, NamesOnce}
 use Rattle.store.specs.Views.{View, view, first-of, asked, record-says}
 use Rattle.store.specs.Says.{put-says, put-leaves, take-says, take-leaves, rename-says, rename-leaves, set-value-says, set-value-leaves}
 use Rattle.store.specs.Listed.{inserted-at, removed-at, position, times, row-with, found, put-place, renamed-row, revalued-row, first-where, Shown}
@@ -66,3 +66,10 @@ Neighbours-are-listed = (d : Forest) (t : ℕ) (v : View) → Kept d → view d 
 -- there are as many nodes as rows, and the root is the first row
 abbrev pub Size-and-root-are-listed : Type 0
 Size-and-root-are-listed = (d : Forest) → (size d ≡ length (listing d)) × (first-of d ≡ first-where (λ x. true) (listing d))
+
+-- a store may hold every well-formed document; what it holds is well formed but for names that repeat
+abbrev pub Well-formed-is-kept : Type 0
+Well-formed-is-kept = (d : Forest) → WellFormed d → Kept d × NamesOnce d
+
+abbrev pub Kept-is-well-formed : Type 0
+Kept-is-well-formed = (d : Forest) → Kept d → (d ≡ nil → ⊥) → NamesOnce d → WellFormed d

@@ -1,5 +1,6 @@
-// What the writes do to the document-order listing, and what the answers show of it.
-ghost use Rattle.store.specs.Statements.{Put-adds-one, Take-removes-one, Rename-changes-one, Set-value-changes-one, Take-undoes-put, Put-keeps, Take-keeps, Rename-keeps, Set-value-keeps, Record-is-listed, Absent-is-unlisted, Neighbours-are-listed, Size-and-root-are-listed};
+// What the writes do to the document-order listing and to the links between nodes, and what the answers show of the listing.
+ghost use Rattle.store.specs.Statements.{Put-adds-one, Take-removes-one, Rename-changes-one, Set-value-changes-one, Take-undoes-put, Put-keeps, Take-keeps, Rename-keeps, Set-value-keeps, Record-is-listed, Absent-is-unlisted, Neighbours-are-listed, Size-and-root-are-listed, Well-formed-is-kept, Kept-is-well-formed};
+ghost use Rattle.store.specs.Links.{Take-unlinks, Put-links-child, Put-links-attribute, Rename-reshows, Set-value-reshows};
 
 pub fn put_adds_one()
     ensures { λ _. ⌜ Put-adds-one ⌝ }
@@ -51,4 +52,32 @@ pub fn neighbours_are_listed()
 
 pub fn size_and_root_are_listed()
     ensures { λ _. ⌜ Size-and-root-are-listed ⌝ }
+{}
+
+pub fn take_unlinks()
+    ensures { λ _. ⌜ Take-unlinks ⌝ }
+{}
+
+pub fn put_links_child()
+    ensures { λ _. ⌜ Put-links-child ⌝ }
+{}
+
+pub fn put_links_attribute()
+    ensures { λ _. ⌜ Put-links-attribute ⌝ }
+{}
+
+pub fn rename_reshows()
+    ensures { λ _. ⌜ Rename-reshows ⌝ }
+{}
+
+pub fn set_value_reshows()
+    ensures { λ _. ⌜ Set-value-reshows ⌝ }
+{}
+
+pub fn well_formed_is_kept()
+    ensures { λ _. ⌜ Well-formed-is-kept ⌝ }
+{}
+
+pub fn kept_is_well_formed()
+    ensures { λ _. ⌜ Kept-is-well-formed ⌝ }
 {}

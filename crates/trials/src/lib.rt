@@ -6,6 +6,8 @@ mod documents;
 mod lists;
 #[cfg(test)]
 mod sessions;
+#[cfg(test)]
+mod tables;
 
 pub use bytes::file;
 pub use bytes::node;
