@@ -4,7 +4,7 @@ ghost use Rattle.faults.specs.declared.Fault.the-variants.{File, List, Documen
 ghost use Rattle.faults.specs.Numbers.{report, told-file, told-list, told-document, told-store, told};
 
 // Number, layer and place, as a refusal is reported.
-#[derive(Clone, Copy, PartialEq, Eq, Debug)]
+#[derive(Clone, Copy)]
 pub struct Report {
     pub number: u8,
     pub layer: u8,
@@ -33,7 +33,7 @@ pub enum FileFault {
 }
 
 // A change list that is none, or does not suit the document. The place is an operation.
-#[derive(Clone, Copy, PartialEq, Eq, Debug)]
+#[derive(Clone, Copy)]
 pub enum ListFault {
     Structure(usize),
     Misformed(usize),
@@ -59,7 +59,7 @@ pub enum DocumentFault {
 }
 
 // A question or a write that a store refuses.
-#[derive(Clone, Copy, PartialEq, Eq, Debug)]
+#[derive(Clone, Copy)]
 pub enum StoreFault {
     // The node is not well formed, or a name is 0.
     Misformed,
@@ -74,7 +74,7 @@ pub enum StoreFault {
 }
 
 // A refusal of any layer, as a session meets it.
-#[derive(Clone, Copy, PartialEq, Eq, Debug)]
+#[derive(Clone, Copy)]
 pub enum Fault {
     File(FileFault),
     List(ListFault),

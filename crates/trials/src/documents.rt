@@ -2,9 +2,6 @@
 use faults::DocumentFault;
 use faults::DocumentFaultDebug;
 use faults::DocumentFaultPartialEq;
-use faults::Fault;
-use faults::FaultDebug;
-use faults::FaultPartialEq;
 use faults::FileFault;
 use faults::FileFaultDebug;
 use faults::FileFaultPartialEq;
@@ -17,6 +14,7 @@ use records::Kind;
 use records::Node;
 use records::NodeDebug;
 use records::NodePartialEq;
+use samples::reported;
 use std::test::*;
 use writer::write_document;
 
@@ -86,7 +84,10 @@ fn scratch_too_short_is_told_first() -> Result<(), Fail> {
 #[test]
 fn a_written_document_reads_back() -> Result<(), Fail> {
     let mut bytes = [9; 50];
-    check_eq(write_document(&[FRAME, LENGTH, NOTE], &mut bytes), Ok(48))?;
+    check_eq(
+        reported(write_document(&[FRAME, LENGTH, NOTE], &mut bytes)),
+        (0, 0, 48),
+    )?;
     check_eq(bytes[48], 9)?;
     let mut nodes = [FRAME; 4];
     check_eq(read_document(&bytes[0..48], &mut nodes), Ok(3))?;
@@ -103,8 +104,8 @@ fn a_written_document_reads_back() -> Result<(), Fail> {
 fn a_refused_writing_leaves_the_bytes() -> Result<(), Fail> {
     let mut bytes = [9; 47];
     check_eq(
-        write_document(&[FRAME, LENGTH, NOTE], &mut bytes),
-        Err(Fault::File(FileFault::TableShort)),
+        reported(write_document(&[FRAME, LENGTH, NOTE], &mut bytes)),
+        (22, 1, 0),
     )?;
     let nameless = Node {
         id: 1,
@@ -114,8 +115,8 @@ fn a_refused_writing_leaves_the_bytes() -> Result<(), Fail> {
         value: 0,
     };
     check_eq(
-        write_document(&[FRAME, nameless], &mut bytes),
-        Err(Fault::Document(DocumentFault::Misformed(1))),
+        reported(write_document(&[FRAME, nameless], &mut bytes)),
+        (3, 3, 1),
     )?;
     check_eq(bytes, [9; 47])
 }

@@ -1,15 +1,8 @@
 // List files.
-use crate::bytes::file;
-use crate::bytes::node;
-use crate::bytes::operation;
 use codec::Record;
-use faults::Fault;
-use faults::FaultDebug;
-use faults::FaultPartialEq;
 use faults::FileFault;
 use faults::FileFaultDebug;
 use faults::FileFaultPartialEq;
-use faults::ListFault;
 use reader::ListReader;
 use reader::read_list;
 use records::Code;
@@ -22,6 +15,10 @@ use records::NodePartialEq;
 use records::Operation;
 use records::OperationDebug;
 use records::OperationPartialEq;
+use samples::file;
+use samples::node;
+use samples::operation;
+use samples::reported;
 use std::alloc::Global;
 use std::test::*;
 use writer::write_list;
@@ -122,19 +119,22 @@ fn a_list_is_read_and_written_back(rt: LibcRuntime) -> Result<(), Fail> {
         },
     )?;
     let mut again = [0; 96];
-    check_eq(write_list(&operations, &nodes, &mut again), Ok(96))?;
+    check_eq(
+        reported(write_list(&operations, &nodes, &mut again)),
+        (0, 0, 96),
+    )?;
     check(again.as_slice() == bytes.as_slice())?;
     check_eq(
-        write_list(&operations, &nodes[0..2], &mut again),
-        Err(Fault::List(ListFault::Structure(2))),
+        reported(write_list(&operations, &nodes[0..2], &mut again)),
+        (2, 2, 2),
     )?;
     check_eq(
-        write_list(&operations[0..2], &nodes, &mut again),
-        Err(Fault::List(ListFault::Structure(2))),
+        reported(write_list(&operations[0..2], &nodes, &mut again)),
+        (2, 2, 2),
     )?;
     check_eq(
-        write_list(&[NO_OPERATION], &[], &mut again),
-        Err(Fault::List(ListFault::Misformed(0))),
+        reported(write_list(&[NO_OPERATION], &[], &mut again)),
+        (3, 2, 0),
     )
 }
 

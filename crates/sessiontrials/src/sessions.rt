@@ -1,7 +1,7 @@
 // What a session prints of damaged documents: each refusal at its first, a middle and its last place.
-use crate::bytes::file;
-use crate::bytes::node;
 use codec::Record;
+use samples::file;
+use samples::node;
 use session::print;
 use std::alloc::AllocError;
 use std::alloc::Global;

@@ -1,0 +1,3 @@
+// Trials of the session, on good and damaged documents.
+#[cfg(test)]
+mod sessions;
