@@ -1,4 +1,6 @@
 // Prints the document that comes in on standard input, or why it is none.
+#![tactic(auto)]
+
 ghost use Rattle.std.specs.Prelude.{◌≤◌, length, IfOk};
 
 use session::LONGEST;

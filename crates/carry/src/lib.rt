@@ -1,4 +1,6 @@
 // Documents and change lists, carried out on any store by its four writes.
+#![tactic(auto)]
+
 mod planting;
 mod theorems;
 

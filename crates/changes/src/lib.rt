@@ -1,4 +1,6 @@
 // What a change list does to a document: the definitions stand in specs/, the theorems on the contracts below.
+#![tactic(auto)]
+
 ghost use Rattle.changes.specs.Statements.{CasesComeOut, TablesOfChanges, ChangesOfTables, StagesAreOnePass, ChangedIsWellFormed, ReducedLeadsToTheSame, ReducedSuits, ReducedIsItsOwn, ReducedIsGatheredFromWhatIsNotOverridden, OverriddenByTheRules, ReducedIsInOrder, InverseOfReduced, InverseLeadsBack, InverseSuits, InverseIsItsOwn, InverseIsInOrder, NodesBalance, InsertsBehindOrFirst};
 
 pub fn worked_cases_come_out()

@@ -1,4 +1,6 @@
 // Nodes and operations as sixteen bytes each.
+#![tactic(auto)]
+
 mod fields;
 mod spelling;
 

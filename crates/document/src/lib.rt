@@ -1,4 +1,6 @@
 // What a document is, and which node tables list one: the definitions stand in specs/, the theorems on the contracts below.
+#![tactic(auto)]
+
 ghost use Rattle.document.specs.Statements.{PassingListsDocument, ListingPasses, ListingGivesDocument, PassesExactlyForOneDocument, DepthsOfListing};
 
 pub fn passing_lists_document()

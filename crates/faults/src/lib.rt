@@ -1,4 +1,6 @@
 // Why a call was refused: one enum for each layer, and one for a refusal of any layer.
+#![tactic(auto)]
+
 ghost use Rattle.std.specs.Prelude.{◌≡◌};
 ghost use Rattle.faults.specs.declared.Fault.TheVariants.{File, List, Document, Store};
 ghost use Rattle.faults.specs.Numbers.{report, told_file, told_list, told_document, told_store, told_book, told};

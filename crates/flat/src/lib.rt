@@ -1,4 +1,6 @@
 // The flat store: rows in document order, each with the distance to its parent's row and the size of its subtree.
+#![tactic(auto)]
+
 mod kinds;
 mod rows;
 mod shifts;

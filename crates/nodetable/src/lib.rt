@@ -1,4 +1,6 @@
 // The tests on a node table: whether it lists one document in document order, and where it first fails to.
+#![tactic(auto)]
+
 mod order;
 mod repeats;
 mod scratch;

@@ -1,4 +1,6 @@
 // Document files and list files, read into tables.
+#![tactic(auto)]
+
 mod bytes;
 mod documents;
 mod lists;

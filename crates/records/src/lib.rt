@@ -1,4 +1,6 @@
 // Nodes and operations as values.
+#![tactic(auto)]
+
 mod nodes;
 mod operations;
 

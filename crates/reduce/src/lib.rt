@@ -1,4 +1,6 @@
 // The reduced list of a change list, over every store.
+#![tactic(auto)]
+
 mod filling;
 mod lookup;
 mod parts;

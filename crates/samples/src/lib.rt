@@ -1,4 +1,6 @@
 // What the trials share: files by their records, and answers as numbers.
+#![tactic(auto)]
+
 mod bytes;
 mod reports;
 

@@ -1,4 +1,6 @@
 // The printed session: a document file in, its lines out.
+#![tactic(auto)]
+
 mod lines;
 mod opening;
 mod outline;

@@ -1,4 +1,6 @@
 // Stores of one document: the questions and the writes that every store answers alike, and what they mean.
+#![tactic(auto)]
+
 mod reading;
 mod tests;
 mod theorems;

@@ -1,4 +1,6 @@
 // Trials that are the same for every store, run on each of them.
+#![tactic(auto)]
+
 #[cfg(test)]
 mod asking;
 #[cfg(test)]

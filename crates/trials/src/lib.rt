@@ -1,4 +1,6 @@
 // Trials of tables and files through their public calls, on good and damaged inputs.
+#![tactic(auto)]
+
 #[cfg(test)]
 mod documents;
 #[cfg(test)]

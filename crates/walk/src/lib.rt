@@ -1,4 +1,6 @@
 // The walk through a document in document order, over every store, and the listing that it gives.
+#![tactic(auto)]
+
 mod links;
 mod listing;
 mod order;

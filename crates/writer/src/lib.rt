@@ -1,4 +1,6 @@
 // Document files and list files, written from tables.
+#![tactic(auto)]
+
 mod documents;
 mod lists;
 mod tables;
