@@ -130,22 +130,22 @@ node_changes_back t a = λ i. record {
 }
   where
     p_before : joined_nodes InsertBefore (changes_by_code t a) ≡ a.before
-    p_before = simp Pieces (⊕-nil a.before)
+    p_before = simp Pieces
 
     p_after : joined_nodes InsertAfter (changes_by_code t a) ≡ a.after
-    p_after = simp Pieces (⊕-nil a.after)
+    p_after = simp Pieces
 
     p_first : joined_nodes InsertFirst (changes_by_code t a) ≡ a.first
-    p_first = simp Pieces (⊕-nil a.first)
+    p_first = simp Pieces
 
     p_into : joined_nodes InsertInto (changes_by_code t a) ≡ a.into
-    p_into = simp Pieces (⊕-nil a.into)
+    p_into = simp Pieces
 
     p_last : joined_nodes InsertLast (changes_by_code t a) ≡ a.last
-    p_last = simp Pieces (⊕-nil a.last)
+    p_last = simp Pieces
 
     p_attributes : joined_nodes InsertAttributes (changes_by_code t a) ≡ a.attributes
-    p_attributes = simp Pieces (⊕-nil a.attributes)
+    p_attributes = simp Pieces
 
     p_deleted : is_some (first_of Delete (changes_by_code t a)) ≡ a.deleted
     p_deleted = simp (Firsts, the_deletion)

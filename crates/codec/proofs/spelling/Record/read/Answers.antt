@@ -9,8 +9,8 @@ unfolding record_of
 returns c =
     let l : ltb (length c.args.bytes.now) 16 ≡ false = le-ltb (length c.args.bytes.now) 16 c.if-bytes-lt16.false in
     let e : the-record c ≡ record_of c.args.bytes.now =
-    λ i. record { key = c.read-four.ensures i; link = c.read-four-2.ensures i; tag = get_or c.args.bytes.now 8 0; spare = get_or c.args.bytes.now 9 0; name = c.read-two.ensures i; value = c.read-four-3.ensures i } in
-    record { value = rw (l, e); back = ap bytes_of e ∙ record_back c.args.bytes.now c.if-bytes-lt16.false (λ i. omega (arith, c.type-inv.bytes i)) }
+    λ i. record { key = c.read_four.ensures i; link = c.read_four-2.ensures i; tag = get_or c.args.bytes.now 8 0; spare = get_or c.args.bytes.now 9 0; name = c.read_two.ensures i; value = c.read_four-3.ensures i } in
+    record { value = rw (l, e); back = ap bytes_of e ∙ record_back c.args.bytes.now c.if-bytes-lt16.false (λ i. omega (arith, c.ok.bytes i)) }
   where
-    the-record : goal.After-read-four-3 → Record
-    the-record c = record { key = c.read-four.result; link = c.read-four-2.result; tag = get_or c.args.bytes.now 8 0; spare = get_or c.args.bytes.now 9 0; name = c.read-two.result; value = c.read-four-3.result }
+    the-record : goal.After-read_four-3 → Record
+    the-record c = record { key = c.read_four.result; link = c.read_four-2.result; tag = get_or c.args.bytes.now 8 0; spare = get_or c.args.bytes.now 9 0; name = c.read_two.result; value = c.read_four-3.result }
