@@ -15,14 +15,14 @@ loop-count-init c = (omega arith, rw (take_all (length c.args.elements.now) c.ar
 pub loop-count-preserved : goal.loop-count-preserved
 loop-count-preserved c = (
   omega arith,
-  sym (closed_past c.args.parent c.loop-count.count c.args.elements.now empty_slot c.loop-count-test.true c.loop-count.invariant.0 (other _ _ (sym c.is_for.ensures ∙ c.if-not-is-for.true)))
+  sym (closed_past c.args.parent c.loop-count.count c.args.elements.now empty_slot c.loop-count-test.true c.loop-count.invariant.0 (other _ _ (sym c.is_for.ensures ∙ c.if-not-is_for.true)))
       ∙ c.loop-count.invariant.1,
 )
 
-pub returns-else-not-is-for : goal.returns-else-not-is-for
-returns-else-not-is-for c =
+pub returns-else-not-is_for : goal.returns-else-not-is_for
+returns-else-not-is_for c =
     record {
       within = c.loop-count.invariant.0;
-      kept = sym (closed_here c.args.parent c.loop-count.count c.args.elements.now empty_slot c.loop-count-test.true c.loop-count.invariant.0 (eqb-true _ _ (sym c.is_for.ensures ∙ c.if-not-is-for.false)))
+      kept = sym (closed_here c.args.parent c.loop-count.count c.args.elements.now empty_slot c.loop-count-test.true c.loop-count.invariant.0 (eqb-true _ _ (sym c.is_for.ensures ∙ c.if-not-is_for.false)))
           ∙ c.loop-count.invariant.1;
     }

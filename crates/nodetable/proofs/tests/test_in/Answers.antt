@@ -6,21 +6,21 @@ pub returns-in-Some : goal.returns-in-Some
 unfolding table_test
 returns-in-Some c = search rules
 
-pub returns-in-Some-first-repeat : goal.returns-in-Some-first-repeat
+pub returns-in-Some-first_repeat : goal.returns-in-Some-first_repeat
 unfolding table_test
-returns-in-Some-first-repeat c = search rules
+returns-in-Some-first_repeat c = search rules
 
-pub returns-in-Some-first-out-of-order : goal.returns-in-Some-first-out-of-order
+pub returns-in-Some-first_out_of_order : goal.returns-in-Some-first_out_of_order
 unfolding table_test
-returns-in-Some-first-out-of-order c = search rules
+returns-in-Some-first_out_of_order c = search rules
 
-pub returns-in-Some-first-repeat-2 : goal.returns-in-Some-first-repeat-2
+pub returns-in-Some-first_repeat-2 : goal.returns-in-Some-first_repeat-2
 unfolding table_test
-returns-in-Some-first-repeat-2 c = search rules
+returns-in-Some-first_repeat-2 c = search rules
 
-pub returns-in-Some-room-passed : goal.returns-in-Some-room-passed
+pub returns-in-Some-room_passed : goal.returns-in-Some-room_passed
 unfolding table_test
-returns-in-Some-room-passed c = search rules
+returns-in-Some-room_passed c = search rules
 
 pub returns : goal.returns
 unfolding table_test

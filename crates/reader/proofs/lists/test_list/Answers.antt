@@ -6,14 +6,14 @@ pub overflow-sub-result : goal.overflow-sub-result
 overflow-sub-result c =
     omega (
       arith,
-      c.count-operations-operations.ensures,
-      list_counted c.args.bytes.now c.in-ok-count.count (sym c.whole-records.ensures ∙ c.in-ok-count.was)
-          (λ i. omega (arith, c.type-inv.bytes i)) (sym c.first-misformed.ensures ∙ c.in-default-first-misformed.is),
+      c.count_operations-operations.ensures,
+      list_counted c.args.bytes.now c.in_ok-count.count (sym c.whole_records.ensures ∙ c.in_ok-count.was)
+          (λ i. omega (arith, c.type_inv.bytes i)) (sym c.first_misformed.ensures ∙ c.in_default-first_misformed.is),
     )
 
 pub returns : goal.returns
 returns c =
-    let a = list_accepted c.args.bytes.now c.in-ok-count.count (sym c.whole-records.ensures ∙ c.in-ok-count.was)
-    (λ i. omega (arith, c.type-inv.bytes i)) c.count-operations-operations.result c.count-operations-operations.ensures
-    (sym c.first-ill-built.ensures ∙ c.in-default.is) (sym c.first-misformed.ensures ∙ c.in-default-first-misformed.is) in
+    let a = list_accepted c.args.bytes.now c.in_ok-count.count (sym c.whole_records.ensures ∙ c.in_ok-count.was)
+    (λ i. omega (arith, c.type_inv.bytes i)) c.count_operations-operations.result c.count_operations-operations.ensures
+    (sym c.first_ill_built.ensures ∙ c.in_default.is) (sym c.first_misformed.ensures ∙ c.in_default-first_misformed.is) in
     record { value = a.0; accepted = a.1 }

@@ -5,21 +5,21 @@ use Rattle.reader.proofs.reader.operation_at.Goals as goal
 pub returns-then-place-count : goal.returns-then-place-count
 returns-then-place-count c = record { step = sym (step_end c.args.bytes.now c.args.place c.if-place-count.true); within = omega arith }
 
-pub returns-then-is-ill-built : goal.returns-then-is-ill-built
-returns-then-is-ill-built c =
-    record { step = sym (step_ill_built c.args.bytes.now c.args.place c.record-at-found.result (omega arith) c.record-at-found.ensures (sym c.is-ill-built.ensures ∙ c.if-is-ill-built.true)); within = omega arith }
+pub returns-then-is_ill_built : goal.returns-then-is_ill_built
+returns-then-is_ill_built c =
+    record { step = sym (step_ill_built c.args.bytes.now c.args.place c.record_at-found.result (omega arith) c.record_at-found.ensures (sym c.is_ill_built.ensures ∙ c.if-is_ill_built.true)); within = omega arith }
 
-pub returns-in-default : goal.returns-in-default
-returns-in-default c =
-    record { step = sym (step_misformed c.args.bytes.now c.args.place c.record-at-found.result (omega arith) c.record-at-found.ensures (sym c.is-ill-built.ensures ∙ c.if-is-ill-built.false) (sym c.operation.ensures ∙ c.in-default.is)); within = omega arith }
+pub returns-in_default : goal.returns-in_default
+returns-in_default c =
+    record { step = sym (step_misformed c.args.bytes.now c.args.place c.record_at-found.result (omega arith) c.record_at-found.ensures (sym c.is_ill_built.ensures ∙ c.if-is_ill_built.false) (sym c.operation.ensures ∙ c.in_default.is)); within = omega arith }
 
 pub slice-bounds-part-end : goal.slice-bounds-part-end
 slice-bounds-part-end c =
-    part_within c.args.bytes.now c.args.place c.record-at-found.result (omega arith) c.record-at-found.ensures c.in-Some.operation (sym c.is-ill-built.ensures ∙ c.if-is-ill-built.false) (sym c.operation.ensures ∙ c.in-Some.is)
+    part_within c.args.bytes.now c.args.place c.record_at-found.result (omega arith) c.record_at-found.ensures c.in-Some.operation (sym c.is_ill_built.ensures ∙ c.if-is_ill_built.false) (sym c.operation.ensures ∙ c.in-Some.is)
 
 pub returns : goal.returns
 returns c =
-    let s = step_gives c.args.bytes.now c.args.place c.record-at-found.result (omega arith) c.record-at-found.ensures c.in-Some.operation (sym c.is-ill-built.ensures ∙ c.if-is-ill-built.false) (sym c.operation.ensures ∙ c.in-Some.is) in
-    let w = part_within c.args.bytes.now c.args.place c.record-at-found.result (omega arith) c.record-at-found.ensures c.in-Some.operation (sym c.is-ill-built.ensures ∙ c.if-is-ill-built.false) (sym c.operation.ensures ∙ c.in-Some.is) in
+    let s = step_gives c.args.bytes.now c.args.place c.record_at-found.result (omega arith) c.record_at-found.ensures c.in-Some.operation (sym c.is_ill_built.ensures ∙ c.if-is_ill_built.false) (sym c.operation.ensures ∙ c.in-Some.is) in
+    let w = part_within c.args.bytes.now c.args.place c.record_at-found.result (omega arith) c.record_at-found.ensures c.in-Some.operation (sym c.is_ill_built.ensures ∙ c.if-is_ill_built.false) (sym c.operation.ensures ∙ c.in-Some.is) in
     let z : 16 * c.args.place + 16 + 16 * c.in-Some.operation.count - (16 * c.args.place + 16) ≡ 16 * c.in-Some.operation.count = omega arith in
     record { step = rw z (sym s); within = omega (arith, w) }

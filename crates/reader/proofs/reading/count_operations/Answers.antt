@@ -9,15 +9,15 @@ pub loop-place-preserved : goal.loop-place-preserved
 loop-place-preserved c =
     let bs = c.args.bytes.now in
     let k = c.loop-place.place in
-    let r = c.record-at-found.result in
-    let d = c.due-after-due.ensures in
+    let r = c.record_at-found.result in
+    let d = c.due_after-due.ensures in
     let rest = ap (λ m. length (operations_in m (drop (k + 1) (records bs)))) d in
     elim c.if-due-eq0.branch [
       | then-due-eq0 w ↦
-          let s = operations_on_due bs k r (omega arith) c.record-at-found.ensures c.loop-place.due k (eq-eqb _ 0 w.if-due-eq0.true) c.loop-place.invariant.0 in
+          let s = operations_on_due bs k r (omega arith) c.record_at-found.ensures c.loop-place.due k (eq-eqb _ 0 w.if-due-eq0.true) c.loop-place.invariant.0 in
           (rw d s.4, omega (arith, rest, ap length s.2, w.count-is), omega (arith, w.count-is))
       | else-due-eq0 w ↦
-          let s = nodes_on_due bs k r (omega arith) c.record-at-found.ensures c.loop-place.due k (ne_eqb _ 0 w.if-due-eq0.false) c.loop-place.invariant.0 in
+          let s = nodes_on_due bs k r (omega arith) c.record_at-found.ensures c.loop-place.due k (ne_eqb _ 0 w.if-due-eq0.false) c.loop-place.invariant.0 in
           (rw d s.4, omega (arith, rest, ap length s.3, w.count-is), omega (arith, w.count-is))
     ]
 

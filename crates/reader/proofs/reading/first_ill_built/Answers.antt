@@ -3,15 +3,15 @@ use Rattle.reader.specs.Reading.{structure_from}
 use Rattle.reader.proofs.Tests.{no_record, structure_here, structure_on}
 use Rattle.reader.proofs.reading.first_ill_built.Goals as goal
 
-pub returns-then-is-ill-built : goal.returns-then-is-ill-built
-returns-then-is-ill-built c =
-    sym (structure_here c.args.bytes.now c.loop-place.place c.record-at-found.result (omega arith) c.record-at-found.ensures c.loop-place.due (sym c.is-ill-built.ensures ∙ c.if-is-ill-built.true))
+pub returns-then-is_ill_built : goal.returns-then-is_ill_built
+returns-then-is_ill_built c =
+    sym (structure_here c.args.bytes.now c.loop-place.place c.record_at-found.result (omega arith) c.record_at-found.ensures c.loop-place.due (sym c.is_ill_built.ensures ∙ c.if-is_ill_built.true))
     ∙ c.loop-place.invariant
 
 pub loop-place-preserved : goal.loop-place-preserved
 loop-place-preserved c =
-    let e = structure_on c.args.bytes.now c.loop-place.place c.record-at-found.result (omega arith) c.record-at-found.ensures c.loop-place.due (sym c.is-ill-built.ensures ∙ c.if-is-ill-built.false) in
-    rw c.due-after-due.ensures (sym e ∙ c.loop-place.invariant)
+    let e = structure_on c.args.bytes.now c.loop-place.place c.record_at-found.result (omega arith) c.record_at-found.ensures c.loop-place.due (sym c.is_ill_built.ensures ∙ c.if-is_ill_built.false) in
+    rw c.due_after-due.ensures (sym e ∙ c.loop-place.invariant)
 
 pub returns : goal.returns
 returns c =

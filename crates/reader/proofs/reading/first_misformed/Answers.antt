@@ -4,15 +4,15 @@ use Rattle.reader.specs.Reading.{misformed_from}
 use Rattle.reader.proofs.Tests.{no_record, misformed_here, misformed_on}
 use Rattle.reader.proofs.reading.first_misformed.Goals as goal
 
-pub returns-then-not-spells-due : goal.returns-then-not-spells-due
-returns-then-not-spells-due c =
-    sym (misformed_here c.args.bytes.now c.loop-place.place c.record-at-found.result (omega arith) c.record-at-found.ensures c.loop-place.due (sym c.spells-due.ensures ∙ c.if-not-spells-due.true))
+pub returns-then-not-spells_due : goal.returns-then-not-spells_due
+returns-then-not-spells_due c =
+    sym (misformed_here c.args.bytes.now c.loop-place.place c.record_at-found.result (omega arith) c.record_at-found.ensures c.loop-place.due (sym c.spells_due.ensures ∙ c.if-not-spells_due.true))
     ∙ c.loop-place.invariant
 
 pub loop-place-preserved : goal.loop-place-preserved
 loop-place-preserved c =
-    let e = misformed_on c.args.bytes.now c.loop-place.place c.record-at-found.result (omega arith) c.record-at-found.ensures c.loop-place.due c.loop-place.place (sym c.spells-due.ensures ∙ c.if-not-spells-due.false) in
-    rw c.due-after-due.ensures (sym e ∙ c.loop-place.invariant)
+    let e = misformed_on c.args.bytes.now c.loop-place.place c.record_at-found.result (omega arith) c.record_at-found.ensures c.loop-place.due c.loop-place.place (sym c.spells_due.ensures ∙ c.if-not-spells_due.false) in
+    rw c.due_after-due.ensures (sym e ∙ c.loop-place.invariant)
 
 pub returns : goal.returns
 returns c =

@@ -4,7 +4,7 @@ use Rattle.session.proofs.outline.stand_below.Goals as goal
 
 pub returns-in-Element : goal.returns-in-Element
 returns-in-Element c =
-    let d = c.still-open-depth in
+    let d = c.still_open-depth in
     let n = c.args.count in
     let ss = c.args.slots.now in
     let x = c.args.node.now in
@@ -14,14 +14,14 @@ returns-in-Element c =
       within = omega (arith, fewer n d.result ss x c.requires d.ensures.within d.ensures.kept);
     }
 
-pub returns-in-default : goal.returns-in-default
-returns-in-default c =
-    let d = c.still-open-depth in
+pub returns-in_default : goal.returns-in_default
+returns-in_default c =
+    let d = c.still_open-depth in
     let n = c.args.count in
     let ss = c.args.slots.now in
     let x = c.args.node.now in
     record {
       deep = deep_below n d.result ss x c.requires d.ensures.within d.ensures.kept;
-      behind = behind_other n d.result ss x c.requires d.ensures.within d.ensures.kept c.in-default.not-Element;
+      behind = behind_other n d.result ss x c.requires d.ensures.within d.ensures.kept c.in_default.not-Element;
       within = omega (arith, fewer n d.result ss x c.requires d.ensures.within d.ensures.kept);
     }

@@ -7,7 +7,7 @@ use Rattle.session.proofs.text.session_text.Goals as goal
 pub returns-in-Ok : goal.returns-in-Ok
 returns-in-Ok c =
     let listed = c.in-Ok.ensures in
-    IfOk-weaker c.document-text.result _ _ (λ s e. e ∙ prints_document c.args.input.now _ listed.passed listed.document) c.document-text.ensures
+    IfOk-weaker c.document_text.result _ _ (λ s e. e ∙ prints_document c.args.input.now _ listed.passed listed.document) c.document_text.ensures
 
 pub returns-in-Err : goal.returns-in-Err
 returns-in-Err c =

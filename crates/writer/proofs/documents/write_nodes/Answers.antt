@@ -6,11 +6,11 @@ use Rattle.reader.specs.Layout.{document_records}
 use Rattle.writer.proofs.Written.{room_fits, front_written, reads_document}
 use Rattle.writer.proofs.documents.write_nodes.Goals as goal
 
-pub put-nodes-requires : goal.put-nodes-requires
-put-nodes-requires c = omega (arith, room_fits (length c.args.bytes.now) (length c.args.nodes.now) c.requires.fits)
+pub put_nodes-requires : goal.put_nodes-requires
+put_nodes-requires c = omega (arith, room_fits (length c.args.bytes.now) (length c.args.nodes.now) c.requires.fits)
 
 pub returns : goal.returns
 returns c =
     let xs = c.args.nodes.now in
-    let f = front_written c.args.bytes.now c.put-nodes.new.bytes (document_records xs) (length xs) (length-map xs record_of_node) c.put-nodes.ensures.text in
-    record { count = refl; text = f.0; reads-back = subst (λ bs. ReadsDocument bs xs) (sym f.1) (reads_document xs c.requires.formed c.put-nodes.ensures.spelt) }
+    let f = front_written c.args.bytes.now c.put_nodes.new.bytes (document_records xs) (length xs) (length-map xs record_of_node) c.put_nodes.ensures.text in
+    record { count = refl; text = f.0; reads-back = subst (λ bs. ReadsDocument bs xs) (sym f.1) (reads_document xs c.requires.formed c.put_nodes.ensures.spelt) }

@@ -5,21 +5,21 @@ use Rattle.writer.proofs.Chunks.{blank, turn, count_within, counts_on}
 use Rattle.writer.proofs.Formed.{counted_as, formed_as, misformed_here, misformed_past}
 use Rattle.writer.proofs.tables.first_misformed_operation.Goals as goal
 
-pub slice-bounds-is-formed-with-end : goal.slice-bounds-is-formed-with-end
-slice-bounds-is-formed-with-end c =
+pub slice-bounds-is_formed_with-end : goal.slice-bounds-is_formed_with-end
+slice-bounds-is_formed_with-end c =
     let os = c.args.operations.now in
     let k = c.loop-place.place in
     count_within os c.args.nodes.now k c.loop-place.used (get_or os k blank) c.loop-place-test.true (turn os k c.loop-place-test.true) c.loop-place.invariant.2 c.loop-place.invariant.1
 
-pub returns-then-not-is-formed-with : goal.returns-then-not-is-formed-with
-returns-then-not-is-formed-with c =
+pub returns-then-not-is_formed_with : goal.returns-then-not-is_formed_with
+returns-then-not-is_formed_with c =
     let os = c.args.operations.now in
     let xs = c.args.nodes.now in
     let k = c.loop-place.place in
     let u = c.loop-place.used in
     let o = get_or os k blank in
     let z : u + o.count - u ≡ o.count = omega arith in
-    let f = ap (λ n. formed_with o (take n (drop u xs))) (sym z) ∙ sym c.is-formed-with.ensures ∙ c.if-not-is-formed-with.true in
+    let f = ap (λ n. formed_with o (take n (drop u xs))) (sym z) ∙ sym c.is_formed_with.ensures ∙ c.if-not-is_formed_with.true in
     sym (misformed_here os k o c.loop-place-test.true (turn os k c.loop-place-test.true) (drop u xs) f) ∙ c.loop-place.invariant.0 ∙ formed_as [] 0 os xs
 
 pub loop-place-preserved : goal.loop-place-preserved
@@ -31,7 +31,7 @@ loop-place-preserved c =
     let o = get_or os k blank in
     let h = c.loop-place-test.true in
     let z : u + o.count - u ≡ o.count = omega arith in
-    let f = ap (λ n. formed_with o (take n (drop u xs))) (sym z) ∙ sym c.is-formed-with.ensures ∙ c.if-not-is-formed-with.false in
+    let f = ap (λ n. formed_with o (take n (drop u xs))) (sym z) ∙ sym c.is_formed_with.ensures ∙ c.if-not-is_formed_with.false in
     let on = misformed_past os k o h (turn os k h) (drop u xs) f ∙ ap (misformed_list_from (k + 1) (drop (k + 1) os)) (drop-drop o.count u xs) in (
       sym on ∙ c.loop-place.invariant.0,
       counts_on os xs k u o h (turn os k h) c.loop-place.invariant.2 c.loop-place.invariant.1,

@@ -10,9 +10,9 @@ not_same false false e = refl
 not_same true false e = sym e
 not_same false true e = sym e
 
-pub returns-then-is-formed : goal.returns-then-is-formed
-returns-then-is-formed c =
+pub returns-then-is_formed : goal.returns-then-is_formed
+returns-then-is_formed c =
     let xs = c.args.nodes.now in
-    let e = not_same c.is-none.result (all_formed xs) (sym c.is-none.ensures ∙ ap is_some c.first-misformed.ensures ∙ none_misformed 0 xs) in
-    let f : formed_operation c.args.operation ≡ true = sym c.if-is-formed.ensures in
+    let e = not_same c.is_none.result (all_formed xs) (sym c.is_none.ensures ∙ ap is_some c.first_misformed.ensures ∙ none_misformed 0 xs) in
+    let f : formed_operation c.args.operation ≡ true = sym c.if-is_formed.ensures in
     e ∙ ap (λ b. b && all_formed xs) (sym f)

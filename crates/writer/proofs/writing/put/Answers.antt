@@ -13,4 +13,4 @@ put_is a table xs ys e l =
     rw (e, ← l, p)
 
 pub returns : goal.returns
-returns c = record { text = put_is (16 * c.args.place) c.args.bytes.now (bytes_of c.args.written) c.copy-from-slice.new.self (c.copy-from-slice.ensures.after ∙ c.bytes-text.ensures.value) (length_bytes_of c.args.written); spelt = ap record_of (sym c.bytes-text.ensures.value) ∙ c.bytes-text.ensures.back }
+returns c = record { text = put_is (16 * c.args.place) c.args.bytes.now (bytes_of c.args.written) c.copy_from_slice.new.self (c.copy_from_slice.ensures.after ∙ c.bytes-text.ensures.value) (length_bytes_of c.args.written); spelt = ap record_of (sym c.bytes-text.ensures.value) ∙ c.bytes-text.ensures.back }

@@ -7,14 +7,14 @@ use Rattle.reader.proofs.Rows.{file_more, spelt-++}
 use Rattle.writer.proofs.Chunks.{blank, turn, take_chunk, length_list_records, count_within, counts_on, records_here, nodes_here}
 use Rattle.writer.proofs.writing.put_list.Goals as goal
 
-pub slice-bounds-put-operation-end : goal.slice-bounds-put-operation-end
-slice-bounds-put-operation-end c =
+pub slice-bounds-put_operation-end : goal.slice-bounds-put_operation-end
+slice-bounds-put_operation-end c =
     let os = c.args.operations.now in
     let k = c.loop-k.k in
     count_within os c.args.nodes.now k c.loop-k.used (get_or os k blank) c.loop-k-test.true (turn os k c.loop-k-test.true) c.loop-k.invariant.4 c.loop-k.invariant.3
 
-pub put-operation-requires : goal.put-operation-requires
-put-operation-requires c =
+pub put_operation-requires : goal.put_operation-requires
+put_operation-requires c =
     let os = c.args.operations.now in
     let xs = c.args.nodes.now in
     let k = c.loop-k.k in
@@ -43,11 +43,11 @@ loop-k-preserved c =
     let front : take (p + (1 + o.count)) all ≡ take p all ++ chunk = ap (λ n. take n all) (sym long) ∙ t.0 in
     let z : u + o.count - u ≡ o.count = omega arith in
     let part = ap (λ n. record_of_operation o ∷ document_records (take n (drop u xs))) z in
-    let text = file_more c.args.bytes.now c.loop-k.bytes c.put-operation.new.bytes 0 (16 * p) (take p all) chunk c.loop-k.invariant.0
+    let text = file_more c.args.bytes.now c.loop-k.bytes c.put_operation.new.bytes 0 (16 * p) (take p all) chunk c.loop-k.invariant.0
     (omega (arith, length-take-le p all (omega (arith, c.loop-k.invariant.5)))) (omega (arith, c.loop-k.invariant.5))
-    (c.put-operation.ensures.text ∙ ap (λ l. patched c.loop-k.bytes (16 * p) (file_of l)) part) in (
+    (c.put_operation.ensures.text ∙ ap (λ l. patched c.loop-k.bytes (16 * p) (file_of l)) part) in (
       text ∙ ap (λ l. patched c.args.bytes.now 0 (file_of l)) (sym front),
-      subst Spelt (sym front) (spelt-++ (take p all) chunk c.loop-k.invariant.1 (subst Spelt part c.put-operation.ensures.spelt)),
+      subst Spelt (sym front) (spelt-++ (take p all) chunk c.loop-k.invariant.1 (subst Spelt part c.put_operation.ensures.spelt)),
       ap (λ n. drop n all) (sym long) ∙ t.1,
       counts_on os xs k u o h e c.loop-k.invariant.4 c.loop-k.invariant.3,
       w,
