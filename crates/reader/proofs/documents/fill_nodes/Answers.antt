@@ -14,6 +14,6 @@ fill-requires c =
     let m : misformed_from n 0 (records bs) ≡ None = rw h c.requires.accepted.formed in
     record {
       formed = m;
-      operations-fit = omega (arith, ap length (no_operations n (records bs) (omega arith)));
+      operations_fit = omega (arith, ap length (no_operations n (records bs) (omega arith)));
       nodes_fit = omega (arith, all_nodes n 0 (records bs) (omega arith) m, c.requires.fits);
     }

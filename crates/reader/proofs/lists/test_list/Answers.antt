@@ -2,8 +2,8 @@ use Rattle.std.proofs.Common.{sym, ◌∙◌, arith}
 use Rattle.reader.proofs.Accepting.{list_accepted, list_counted}
 use Rattle.reader.proofs.lists.test_list.Goals as goal
 
-pub overflow-sub-result : goal.overflow-sub-result
-overflow-sub-result c =
+pub overflow_sub-result : goal.overflow_sub-result
+overflow_sub-result c =
     omega (
       arith,
       c.count_operations-operations.ensures,

@@ -13,8 +13,8 @@ pub returns-in_default : goal.returns-in_default
 returns-in_default c =
     record { step = sym (step_misformed c.args.bytes.now c.args.place c.record_at-found.result (omega arith) c.record_at-found.ensures (sym c.is_ill_built.ensures ∙ c.if-is_ill_built.false) (sym c.operation.ensures ∙ c.in_default.is)); within = omega arith }
 
-pub slice-bounds-part-end : goal.slice-bounds-part-end
-slice-bounds-part-end c =
+pub slice_bounds-part-end : goal.slice_bounds-part-end
+slice_bounds-part-end c =
     part_within c.args.bytes.now c.args.place c.record_at-found.result (omega arith) c.record_at-found.ensures c.in-Some.operation (sym c.is_ill_built.ensures ∙ c.if-is_ill_built.false) (sym c.operation.ensures ∙ c.in-Some.is)
 
 pub returns : goal.returns

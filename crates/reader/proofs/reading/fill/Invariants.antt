@@ -7,5 +7,5 @@ use Rattle.reader.proofs.reading.fill.Given as goal
 abbrev pub invariant-loop-place : goal.invariant-loop-place
 invariant-loop-place l =
     (misformed_from l.due l.place (drop l.place (records l.bytes)) ≡ None)
-    × Filled (operations_in l.nodes-first (records l.bytes)) l.initial.operations l.operations l.operation-count (operations_in l.due (drop l.place (records l.bytes)))
-    × Filled (nodes_in l.nodes-first (records l.bytes)) l.initial.nodes l.nodes l.node-count (nodes_in l.due (drop l.place (records l.bytes)))
+    × Filled (operations_in l.nodes_first (records l.bytes)) l.initial.operations l.operations l.operation_count (operations_in l.due (drop l.place (records l.bytes)))
+    × Filled (nodes_in l.nodes_first (records l.bytes)) l.initial.nodes l.nodes l.node_count (nodes_in l.due (drop l.place (records l.bytes)))

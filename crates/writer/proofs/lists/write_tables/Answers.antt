@@ -17,4 +17,4 @@ returns c =
     let xs = c.args.nodes.now in
     let l = length_list_records 0 os xs (list_counted os xs c.requires.formed) in
     let f = front_written c.args.bytes.now c.put_list.new.bytes (list_records os xs) (length os + length xs) l c.put_list.ensures.text in
-    record { count = refl; text = f.0; reads-back = subst (λ bs. ReadsList bs os xs) (sym f.1) (reads_list os xs c.requires.formed c.put_list.ensures.spelt) }
+    record { count = refl; text = f.0; reads_back = subst (λ bs. ReadsList bs os xs) (sym f.1) (reads_list os xs c.requires.formed c.put_list.ensures.spelt) }

@@ -5,8 +5,8 @@ use Rattle.writer.proofs.Chunks.{blank, turn, count_within, counts_on}
 use Rattle.writer.proofs.Formed.{counted_as, formed_as, misformed_here, misformed_past}
 use Rattle.writer.proofs.tables.first_misformed_operation.Goals as goal
 
-pub slice-bounds-is_formed_with-end : goal.slice-bounds-is_formed_with-end
-slice-bounds-is_formed_with-end c =
+pub slice_bounds-is_formed_with-end : goal.slice_bounds-is_formed_with-end
+slice_bounds-is_formed_with-end c =
     let os = c.args.operations.now in
     let k = c.loop-place.place in
     count_within os c.args.nodes.now k c.loop-place.used (get_or os k blank) c.loop-place-test.true (turn os k c.loop-place-test.true) c.loop-place.invariant.2 c.loop-place.invariant.1

@@ -7,8 +7,8 @@ use Rattle.reader.proofs.Rows.{file_more, spelt-++}
 use Rattle.writer.proofs.Chunks.{blank, turn, take_chunk, length_list_records, count_within, counts_on, records_here, nodes_here}
 use Rattle.writer.proofs.writing.put_list.Goals as goal
 
-pub slice-bounds-put_operation-end : goal.slice-bounds-put_operation-end
-slice-bounds-put_operation-end c =
+pub slice_bounds-put_operation-end : goal.slice_bounds-put_operation-end
+slice_bounds-put_operation-end c =
     let os = c.args.operations.now in
     let k = c.loop-k.k in
     count_within os c.args.nodes.now k c.loop-k.used (get_or os k blank) c.loop-k-test.true (turn os k c.loop-k-test.true) c.loop-k.invariant.4 c.loop-k.invariant.3
