@@ -8,7 +8,7 @@ loop-node-preserved c =
     let s = c.stand-standing in (
       omega (arith, s.ensures.within, c.loop-node.invariant.0),
       lines_on (open_ids (take c.loop-node.open c.loop-node.slots)) c.args.nodes.now c.loop-node.node-index _ s.result.depth _ _ _ _ _ c.loop-node-test.true
-          s.ensures.deep s.ensures.behind c.in-ok_line.ensures (rw c.as_str.ensures.value at c.in_ok-push_str.ensures.bytes) c.loop-node.invariant.1,
+          s.ensures.deep s.ensures.behind c.in_ok-line.ensures (rw c.as_str.ensures.value at c.in_ok-push_str.ensures.bytes) c.loop-node.invariant.1,
     )
 
 pub returns : goal.returns
