@@ -11,4 +11,4 @@ rest k xs = take_all (length xs - k) (drop k xs) (omega (arith, length-drop k xs
 pub returns-then-has : goal.returns-then-has
 returns-then-has c =
     let x : Node = get_or c.args.nodes.now c.args.place no_node in
-    c.first-of.ensures ∙ ap (first_where (below_row c.args.below x.parent)) (rest (c.args.place + 1) c.args.nodes.now) ∙ sym (cond-true (below_row c.args.below x.parent x) _ _ (sym c.has.ensures ∙ c.if-has.true))
+    c.first_of.ensures ∙ ap (first_where (below_row c.args.below x.parent)) (rest (c.args.place + 1) c.args.nodes.now) ∙ sym (cond-true (below_row c.args.below x.parent x) _ _ (sym c.has.ensures ∙ c.if-has.true))

@@ -2,11 +2,11 @@ use Rattle.std.proofs.Common.{Bool, true, false, cond, ltb, length, sym, refl, a
 use Rattle.sheet.proofs.Showing.{none_listed, none_means, passed_tests}
 use Rattle.sheet.proofs.sheet.Sheet.open.Goals as goal
 
-pub invariant-of-result : goal.invariant-of-result
-invariant-of-result c = (∣ passed_tests (length c.args.slots.now) c.args.nodes.now (sym c.in-Ok.ensures.value) ∣₁, tt)
+pub invariant_of-result : goal.invariant_of-result
+invariant_of-result c = (∣ passed_tests (length c.args.slots.now) c.args.nodes.now (sym c.in-Ok.ensures.value) ∣₁, tt)
 
-pub invariant-of-result-in-Err : goal.invariant-of-result-in-Err
-invariant-of-result-in-Err c = (∣ none_listed ∣₁, tt)
+pub invariant_of-result-in-Err : goal.invariant_of-result-in-Err
+invariant_of-result-in-Err c = (∣ none_listed ∣₁, tt)
 
 pub returns-in-Err : goal.returns-in-Err
 returns-in-Err c =
