@@ -3,10 +3,10 @@ use Rattle.sheet.proofs.Showing.{none_listed, none_means, passed_tests}
 use Rattle.sheet.proofs.sheet.Sheet.open.Goals as goal
 
 pub invariant_of-result : goal.invariant_of-result
-invariant_of-result c = (∣ passed_tests (length c.args.slots.now) c.args.nodes.now (sym c.in-Ok.ensures.value) ∣₁, tt)
+invariant_of-result c = record { listed = ∣ passed_tests (length c.args.slots.now) c.args.nodes.now (sym c.in-Ok.ensures.value) ∣₁ }
 
 pub invariant_of-result-in-Err : goal.invariant_of-result-in-Err
-invariant_of-result-in-Err c = (∣ none_listed ∣₁, tt)
+invariant_of-result-in-Err c = record { listed = ∣ none_listed ∣₁ }
 
 pub returns-in-Err : goal.returns-in-Err
 returns-in-Err c =
