@@ -24,7 +24,6 @@ told_file (file.TheVariants.Misformed p) = report 3 1 p
 told_file file.TheVariants.TableShort = report 22 1 0
 
 abbrev pub told_list : ListFault → Report
-told_list list.TheVariants.TableShort = report 22 2 0
 told_list (list.TheVariants.Structure p) = report 2 2 p
 told_list (list.TheVariants.Misformed p) = report 3 2 p
 told_list (list.TheVariants.IdentifierTaken p) = report 8 2 p

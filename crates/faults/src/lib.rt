@@ -34,10 +34,9 @@ pub enum FileFault {
     TableShort,
 }
 
-// A change list that is none, or does not suit the document, or a table too short for a list. The place is an operation.
+// A change list that is none, or does not suit the document. The place is an operation.
 #[derive(Clone, Copy)]
 pub enum ListFault {
-    TableShort,
     Structure(usize),
     Misformed(usize),
     IdentifierTaken(usize),
@@ -142,7 +141,6 @@ impl ListFault {
         ensures { result ≡ told_list self }
     {
         match self {
-            ListFault::TableShort => Report::new(22, 2, 0),
             ListFault::Structure(place) => Report::new(2, 2, place),
             ListFault::Misformed(place) => Report::new(3, 2, place),
             ListFault::IdentifierTaken(place) => Report::new(8, 2, place),
