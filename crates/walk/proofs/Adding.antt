@@ -1,15 +1,13 @@
 -- What a step of the walk adds to the listing.
-use Rattle.std.proofs.Common.{◌≡◌, ℕ, suc, ◌+◌, ◌<◌, ◌≤◌, List, [], ◌∷◌, ◌++◌, length, set, Some, Option, sym, refl, ap, ◌∙◌, ap₂, append_assoc, arith, length-append}
+use Rattle.std.proofs.Common.{◌≡◌, ℕ, suc, ◌+◌, ◌<◌, List, [], ◌∷◌, ◌++◌, length, Some, sym, refl, ap, ◌∙◌, ap₂, append_assoc, arith}
 use Rattle.records.specs.declared.nodes.Node.{Node}
-use Rattle.document.specs.Tree.{Label, Forest, nil, node, size_labels, size}
+use Rattle.document.specs.Tree.{Label, Forest, size_labels, size}
 use Rattle.document.specs.Listing.{row, attribute_rows, rows}
 use Rattle.store.specs.Kept.{Kept}
 use Rattle.store.specs.Views.{View, first_of, first_label, view}
 use Rattle.store.specs.Links.{link_of}
-use Rattle.walk.specs.Ahead.{Row, row_below, ahead, after_node, Walks, attributes_of, labels_at, over, size_ahead}
-use Rattle.walk.specs.Written.{written}
-use Rattle.walk.proofs.Writing.{written-++, written_one}
-use Rattle.walk.proofs.Walking.{NodeStep, Goes, Left, LabelStep, zero_ahead, zero_labels, node_step, left_all, label_step, goes_over, goes_after, goes_whole}
+use Rattle.walk.specs.Ahead.{ahead, after_node, Walks, attributes_of, labels_at, over, size_ahead}
+use Rattle.walk.proofs.Walking.{Left, zero_ahead, zero_labels, node_step, left_all, label_step, goes_over, goes_after, goes_whole}
 
 pub length_labels : (l : List Label) → length l ≡ size_labels l
 length_labels [] = refl

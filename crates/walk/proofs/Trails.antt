@@ -1,9 +1,9 @@
 -- The rows of a document with the rows behind them, as the walk meets them, and where each node stands.
-use Rattle.std.proofs.Common.{◌≡◌, ℕ, ◌+◌, ◌<◌, ◌≤◌, Bool, true, false, cond, eqb, ltb, ◌⊎◌, List, [], ◌∷◌, ◌++◌, Some, None, Option, sym, refl, ap, ◌∙◌, subst, ap₂, inl, inr, arith}
+use Rattle.std.proofs.Common.{◌≡◌, ℕ, ◌+◌, ◌<◌, ◌≤◌, true, false, eqb, ltb, List, [], ◌∷◌, ◌++◌, Some, None, Option, refl, ap, ◌∙◌, inl, inr, arith}
 use Rattle.std.proofs.lemmas.Bool.{eqb-true, eq-eqb, cases_Bool, cases_eq, lt-ltb}
 use Rattle.document.specs.Tree.{Label, Forest, nil, node, one, count_labels, count}
 use Rattle.document.proofs.Counting.{one_zero, one_refl}
-use Rattle.store.specs.Views.{View, node_view, attribute_view, or_else, view_attribute, view_in, view}
+use Rattle.store.specs.Views.{node_view, attribute_view, or_else, view_attribute, view_in, view}
 use Rattle.store.proofs.Along.{absent_label, absent}
 use Rattle.walk.specs.Ahead.{Row, row_below, or_rows, ahead_in, ahead, or_labels, labels_from, labels_in, labels_at}
 

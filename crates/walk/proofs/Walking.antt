@@ -1,15 +1,14 @@
 -- One step of the walk: from a node to its attributes, to its children and to what is behind it.
-use Rattle.std.proofs.Common.{◌≡◌, ℕ, ◌+◌, ◌<◌, ◌≤◌, Bool, true, false, cond, eqb, ltb, ◌⊎◌, List, [], ◌∷◌, ◌++◌, length, Some, None, Option, sym, refl, ap, ◌∙◌, subst, ap₂, inl, inr, append_assoc, arith}
-use Rattle.document.specs.Tree.{Label, Forest, nil, node, one, count_labels, count, size}
-use Rattle.document.specs.Listing.{row}
+use Rattle.std.proofs.Common.{◌≡◌, ℕ, ◌+◌, ◌<◌, ◌≤◌, List, [], ◌∷◌, ◌++◌, length, Some, sym, refl, ap, ◌∙◌, subst, ap₂, append_assoc, arith}
+use Rattle.document.specs.Tree.{Label, Forest, nil, node, count, size}
 use Rattle.document.proofs.Counting.{one_refl}
 use Rattle.store.specs.Kept.{Kept}
 use Rattle.store.specs.Views.{View, first_of, first_label, node_view, attribute_view, view}
 use Rattle.store.specs.Links.{link_of}
 use Rattle.store.proofs.Along.{absent}
 use Rattle.store.proofs.Shapes.{no_zero}
-use Rattle.walk.specs.Ahead.{Row, row_below, ahead, first_else, first_ahead, head_ahead, Walks, behind_first, rows_behind, behind_node, after_first, rows_after, after_node, attributes_of_first, attributes_ahead, attributes_of, labels_at, over, size_ahead}
-use Rattle.walk.proofs.Trails.{Trail, whole, below, along, within, Standing, Under, up, Trails, trails_behind, Among, standing_seen, standing_ahead, attribute_seen, attribute_labels, attribute_ahead, OfLabel, Spot, nowhere, in_row, on_node, spot, unseen_ahead, unseen_labels}
+use Rattle.walk.specs.Ahead.{Row, row_below, ahead, first_else, first_ahead, head_ahead, Walks, rows_behind, behind_node, rows_after, after_node, attributes_ahead, attributes_of, labels_at, over, size_ahead}
+use Rattle.walk.proofs.Trails.{Trail, whole, below, along, within, Standing, Under, up, Trails, trails_behind, standing_seen, standing_ahead, attribute_seen, attribute_labels, attribute_ahead, OfLabel, Spot, nowhere, in_row, on_node, spot, unseen_ahead, unseen_labels}
 
 -- the rows without the empty ones in front
 abbrev settle : Forest → List Row → List Row → List Row

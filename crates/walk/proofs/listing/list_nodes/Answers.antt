@@ -16,11 +16,11 @@ loop-id-init g c =
     let u : Begun d c.kept.ensures.shape c.root-id.result = begun d c.kept.ensures.shape c.root-id.result c.root-id.ensures in
     (u.walks, omega (arith, u.each), ap (written c.args.nodes.now 0) u.all)
 
-pub list-attributes-at-requires : goal.list-attributes-at-requires
-list-attributes-at-requires g c =
+pub list_attributes-at-requires : goal.list_attributes-at-requires
+list_attributes-at-requires g c =
     let d : Forest = g.R.Reading.forest c.args.store.now in
     let u : NodeListed d c.loop-id.id _ = node_listed d c.kept.ensures.shape c.loop-id.id _ c.loop-id.invariant.0 c.loop-id-test.true refl in
-    record { walks = c.loop-id.invariant.0; node = omega arith; fits = omega (arith, u.fewer, c.loop-id.invariant.1, c.requires, c.put-record.auto.nodes) }
+    record { walks = c.loop-id.invariant.0; node = omega arith; fits = omega (arith, u.fewer, c.loop-id.invariant.1, c.requires, c.put_record.auto.nodes) }
 
 pub loop-id-smaller : goal.loop-id-smaller
 loop-id-smaller g c =
@@ -37,11 +37,11 @@ loop-id-preserved g c =
     let u : NodeListed d x y = node_listed d c.kept.ensures.shape x y c.loop-id.invariant.0 c.loop-id-test.true c.after-id.ensures in
     let A : List Node = attribute_rows x (attributes_of d x) in
     let R : List Node = over rows (ahead d y) in
-    let w = c.put-record.ensures ∙ ap (with_record c.loop-id.nodes c.loop-id.at) u.seen in (
+    let w = c.put_record.ensures ∙ ap (with_record c.loop-id.nodes c.loop-id.at) u.seen in (
       u.walks,
-      omega (arith, u.fewer, c.loop-id.invariant.1, c.list-attributes-at.ensures.answer),
-      ap₂ (λ (xs : List Node) (n : ℕ). written xs n R) c.list-attributes-at.ensures.table (c.list-attributes-at.ensures.answer ∙ ap (λ (n : ℕ). c.loop-id.at + 1 + n) (sym (length_rows x (attributes_of d x))))
-          ∙ (written-++ c.put-record.new.nodes (c.loop-id.at + 1) A R
+      omega (arith, u.fewer, c.loop-id.invariant.1, c.list_attributes-at.ensures.answer),
+      ap₂ (λ (xs : List Node) (n : ℕ). written xs n R) c.list_attributes-at.ensures.table (c.list_attributes-at.ensures.answer ∙ ap (λ (n : ℕ). c.loop-id.at + 1 + n) (sym (length_rows x (attributes_of d x))))
+          ∙ (written-++ c.put_record.new.nodes (c.loop-id.at + 1) A R
           ∙ (ap (λ (xs : List Node). written xs (c.loop-id.at + 1) (A ++ R)) w
           ∙ (written_one c.loop-id.nodes c.loop-id.at u.shown.row (A ++ R)
           ∙ (ap (written c.loop-id.nodes c.loop-id.at) (sym u.all) ∙ c.loop-id.invariant.2)))),

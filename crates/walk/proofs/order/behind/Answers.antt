@@ -1,4 +1,4 @@
-use Rattle.std.proofs.Common.{◌≡◌, sym, ◌∙◌}
+use Rattle.std.proofs.Common.{sym, ◌∙◌}
 use Rattle.walk.proofs.Walking.{beside, climbs, ends}
 use Rattle.walk.proofs.order.behind.Goals as goal
 
@@ -18,7 +18,7 @@ loop-next-preserved g c = (
   (climbs (g.R.Reading.forest c.args.store.now) c.kept.ensures.shape c.loop-next.at c.parent-at.result (sym c.loop-next.invariant.1 ∙ c.loop-next-test.true) c.parent-at.ensures
       c.if-at-eq0.false).same
       ∙ c.loop-next.invariant.0,
-  c.next-sibling-next-in-loop-next.ensures,
+  c.next_sibling-next-in-loop-next.ensures,
 )
 
 pub returns : goal.returns
