@@ -44,14 +44,14 @@ module _ (p l : ℕ) (around : Forest → Forest) (c : ℕ → ℕ) (n : ℕ) (p
   other t x z = one_zero (eqb r.id t) (omega arith)
 
   -- what is seen of the node itself
-  itself : (k f : Forest) → view (around (node r as' k f)) r.id ≡ Some (node_view p l r as' k f)
+  pub itself : (k f : Forest) → view (around (node r as' k f)) r.id ≡ Some (node_view p l r as' k f)
   itself k f =
       place.seen r.id new (node r as' k f) (omega (arith, one_here r.id))
       ∙ cond-true _ _ _ (eq-eqb r.id r.id refl)
 
   -- below the node
   module _ (element : r.kind ≡ Element) where
-    below : Place r.id 0 (λ g. around (node r as' g nil)) (λ t. c t + (one (eqb r.id t) + count_labels t as')) (n + (1 + size_labels as'))
+    pub below : Place r.id 0 (λ g. around (node r as' g nil)) (λ t. c t + (one (eqb r.id t) + count_labels t as')) (n + (1 + size_labels as'))
     below = record {
       acts = λ t in_row at still z g.
           let e = other t (count_labels t as') z in
@@ -75,7 +75,7 @@ module _ (p l : ℕ) (around : Forest → Forest) (c : ℕ → ℕ) (n : ℕ) (p
     is_behind : (o : Option View) (f : Forest) → o ≡ Some (node_view p l r as' k f) → is_child_of p o ≡ true
     is_behind o f e = ap (is_child_of p) e ∙ rw (eq-eqb p p refl, child)
 
-    behind : Place p r.id (λ g. around (node r as' k g)) (λ t. c t + (one (eqb r.id t) + (count_labels t as' + count t k))) (n + (1 + (size_labels as' + size k)))
+    pub behind : Place p r.id (λ g. around (node r as' k g)) (λ t. c t + (one (eqb r.id t) + (count_labels t as' + count t k))) (n + (1 + (size_labels as' + size k)))
     behind = record {
       acts = λ t in_row at still z g.
           let e = other t (count_labels t as' + count t k) z in

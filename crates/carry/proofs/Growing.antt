@@ -148,7 +148,7 @@ module _ (room : ℕ) where
       kids nil h ih q o z = refl
       kids (node x bs j g) h ih q o z =
           ih (λ w. around (node r as' w nil)) (λ t. c t + (one (eqb r.id t) + count_labels t as')) (n + (1 + size_labels as'))
-          (below p l around c n place r as' pos new (element_if as' (node x bs j g) h (λ e. let y : size (node x bs j g) ≡ 0 = ap size e.1 in omega arith))) q (λ e. absurd (omega arith)) (λ t. omega (arith, o t)) (omega arith)
+          (below p l around c n place r as' pos new (element_if as' (node x bs j g) h (λ e. let y : size (node x bs j g) ≡ 0 = ap size e.1 in omega arith))) q (λ e. absurd (let b = pos in omega arith)) (λ t. omega (arith, o t)) (omega arith)
 
       rest : (f' : Forest) → (p ≡ 0 → AtMostOne (node r as' k f'))
           → ((around : Forest → Forest) (c : ℕ → ℕ) (n : ℕ) → Place p r.id around c n → Shaped f' → (p ≡ 0 → AtMostOne f') → ((t : ℕ) → c t + count t f' ≤ 1) → n + size f' ≤ room → Leads room (steps p r.id f') (around nil) (around f'))
