@@ -1,12 +1,12 @@
 -- A place in a document where a row of trees grows: what is done to a node of the row is done inside the place.
-use Rattle.std.proofs.Common.{◌≡◌, ℕ, ◌+◌, ◌<◌, ◌≤◌, Bool, true, false, cond, not, ◌&&◌, ◌||◌, eqb, List, [], ◌∷◌, Some, None, Option, sym, refl, ap, ◌∙◌, subst, arith}
-use Rattle.std.proofs.lemmas.Bool.{eq-eqb, ne_eqb, eqb-false, cond-true, cond-false}
+use Rattle.std.proofs.Common.{◌≡◌, ℕ, ◌+◌, ◌<◌, ◌≤◌, true, false, eqb, List, [], Some, None, Option, refl, ap, ◌∙◌, arith}
+use Rattle.std.proofs.lemmas.Bool.{eq-eqb, ne_eqb, cond-true}
 use Rattle.records.specs.declared.nodes.Kind.TheVariants.{Element}
-use Rattle.document.specs.Tree.{Label, Forest, nil, node, one, count_labels, count, size_labels, size, Formed}
-use Rattle.document.specs.Listing.{row, label}
+use Rattle.document.specs.Tree.{Label, Forest, nil, node, one, count_labels, count, size_labels, size}
+use Rattle.document.specs.Listing.{row}
 use Rattle.document.specs.Table.{is_attribute}
 use Rattle.document.proofs.Counting.{one_zero}
-use Rattle.store.specs.Views.{View, view, view_in, view_attribute, node_view, or_else}
+use Rattle.store.specs.Views.{View, view, view_in, node_view, or_else}
 use Rattle.store.specs.Writes.{act, unchanged, with_first, with_behind, put_in}
 use Rattle.store.specs.Says.{is_element, is_element_there, is_child_of, fits}
 use Rattle.store.proofs.Along.{Still, untouched, absent, absent_label}

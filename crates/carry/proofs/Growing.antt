@@ -1,17 +1,17 @@
 -- The rows of trees, put in one after another in document order, build the trees.
-use Rattle.std.proofs.Common.{◌≡◌, ℕ, ◌+◌, ◌<◌, ◌≤◌, Bool, true, false, cond, not, ◌&&◌, ◌||◌, eqb, ltb, List, [], ◌∷◌, ◌++◌, Some, None, Ok, Err, sym, refl, ap, ◌∙◌, subst, append_assoc, append-nil, arith}
-use Rattle.std.proofs.lemmas.Bool.{eq-eqb, ne_eqb, eqb-false, le-ltb, cond-true, cond-false}
+use Rattle.std.proofs.Common.{◌≡◌, ℕ, ◌+◌, ◌<◌, ◌≤◌, true, false, eqb, List, [], ◌∷◌, ◌++◌, Ok, sym, refl, ap, ◌∙◌, subst, append_assoc, append-nil, arith}
+use Rattle.std.proofs.lemmas.Bool.{eq-eqb, ne_eqb, le-ltb}
 use Rattle.records.specs.Formed.{formed_node}
 use Rattle.records.specs.declared.nodes.Kind.{Kind}
 use Rattle.records.specs.declared.nodes.Kind.TheVariants.{Element, Attribute, Text}
 use Rattle.records.specs.declared.nodes.Node.{Node}
-use Rattle.document.specs.Tree.{Label, Forest, nil, node, one, count_labels, count, size_labels, size, Above, Formed, Attributes, Holds}
-use Rattle.document.specs.Listing.{row, label}
+use Rattle.document.specs.Tree.{Label, Forest, nil, node, one, count_labels, count, size_labels, size, Above, Attributes, Holds}
+use Rattle.document.specs.Listing.{row}
 use Rattle.document.specs.Table.{is_attribute}
 use Rattle.document.proofs.Gathering.{holder_no_attribute}
 use Rattle.store.specs.Kept.{Shaped, AtMostOne}
-use Rattle.store.specs.Views.{view, node_view}
-use Rattle.store.specs.Writes.{act, unchanged, insert_label, with_attribute, put_in}
+use Rattle.store.specs.Views.{view}
+use Rattle.store.specs.Writes.{unchanged, insert_label, with_attribute, put_in}
 use Rattle.store.specs.Says.{is_there, is_element, is_element_there, fits, put_says}
 use Rattle.store.proofs.Along.{absent}
 use Rattle.store.proofs.Shapes.{above_zero}

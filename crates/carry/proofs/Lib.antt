@@ -1,3 +1,4 @@
 pub mod Rowing
 pub mod Contexts
 pub mod Growing
+pub mod Loading

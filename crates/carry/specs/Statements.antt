@@ -1,7 +1,7 @@
 -- What putting rows in leads to.
 use Rattle.std.specs.Prelude.{◌≡◌, ℕ, List, [], Ok}
 use Rattle.records.specs.declared.nodes.Node.{Node}
-use Rattle.document.specs.Tree.{Forest, nil}
+use Rattle.document.specs.Tree.{nil}
 use Rattle.document.specs.Table.{table_test, document_of}
 use Rattle.carry.specs.Planting.{plant_says, plant_leaves}
 

@@ -19,7 +19,7 @@ use Rattle.store.proofs.Shapes.{no_zero}
 
 -- ---- lists in which no row passes a test
 
-abbrev Free : (Node → Bool) → List Node → Type 0
+abbrev pub Free : (Node → Bool) → List Node → Type 0
 Free q [] = Unit {0}
 Free q (x ∷ xs) = (q x ≡ false) × Free q xs
 
@@ -39,17 +39,17 @@ first_only : (q : Node → Bool) (xs ys : List Node) → Free q ys → first_whe
 first_only q [] ys a = first_none q ys a
 first_only q (x ∷ xs) ys a = ap (λ (n : ℕ). cond (q x) x.id n) (first_only q xs ys a)
 
-last_skip : (q : Node → Bool) (m : ℕ) (xs ys : List Node) → Free q xs → last_from q m (xs ++ ys) ≡ last_from q m ys
+pub last_skip : (q : Node → Bool) (m : ℕ) (xs ys : List Node) → Free q xs → last_from q m (xs ++ ys) ≡ last_from q m ys
 last_skip q m [] ys a = refl
 last_skip q m (x ∷ xs) ys a = ap (λ (b : Bool). last_from q (cond b x.id m) (xs ++ ys)) a.0 ∙ last_skip q m xs ys a.1
 
 -- ---- rows by their parents
 
 -- a test that only rows below u pass
-abbrev Below : ℕ → (Node → Bool) → Type 0
+abbrev pub Below : ℕ → (Node → Bool) → Type 0
 Below u q = (x : Node) → (x.parent ≡ u → ⊥) → q x ≡ false
 
-child_below : (u : ℕ) → Below u (child_row u)
+pub child_below : (u : ℕ) → Below u (child_row u)
 child_below u x h = and_left (eqb x.parent u) (not (is_attribute x.kind)) (ne_eqb x.parent u h)
 
 attribute_below : (u : ℕ) → Below u (attribute_row u)
@@ -59,7 +59,7 @@ free_labels : (u : ℕ) (q : Node → Bool) → Below u q → (p : ℕ) (as' : L
 free_labels u q b p [] h = tt
 free_labels u q b p (r ∷ l) h = (b (row p r) h, free_labels u q b p l h)
 
-free_rows : (u : ℕ) (q : Node → Bool) → Below u q → (p : ℕ) (d : Forest) → (p ≡ u → ⊥) → count u d ≡ 0 → Free q (rows p d)
+pub free_rows : (u : ℕ) (q : Node → Bool) → Below u q → (p : ℕ) (d : Forest) → (p ≡ u → ⊥) → count u d ≡ 0 → Free q (rows p d)
 free_rows u q b p nil h z = tt
 free_rows u q b p (node r as' k f) h z =
     let ne : r.id ≡ u → ⊥ = eqb-false r.id u (one_zero (eqb r.id u) (omega arith)) in (
@@ -78,7 +78,7 @@ holds_kind Element as' k h = refl
 holds_kind Text as' k h = refl
 holds_kind Attribute as' k h = absurd h
 
-labels_no_children : (u p : ℕ) (as' : List Label) → Attributes as' → Free (child_row u) (attribute_rows p as')
+pub labels_no_children : (u p : ℕ) (as' : List Label) → Attributes as' → Free (child_row u) (attribute_rows p as')
 labels_no_children u p [] a = tt
 labels_no_children u p (r ∷ l) a = (rw a.0 (and_no (eqb p u)), labels_no_children u p l a.2)
 
