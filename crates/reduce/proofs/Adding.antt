@@ -1,5 +1,5 @@
 -- Changes that are added one after another to the tables of a list.
-use Rattle.std.proofs.Common.{◌≡◌, ℕ, suc, ◌+◌, ◌^◌, ◌<◌, ◌≤◌, Bool, true, false, cond, eqb, List, [], ◌∷◌, ◌++◌, length, set, Some, sym, refl, ap, ◌∙◌, subst, ap₂, true≢false, append_assoc, add-zero, add-one, arith, length-append}
+use Rattle.std.proofs.Common.{◌≡◌, ℕ, suc, ◌+◌, ◌^◌, ◌<◌, Bool, true, false, cond, eqb, List, [], ◌∷◌, ◌++◌, length, set, sym, refl, ap, ◌∙◌, ap₂, true≢false, append_assoc, add-zero, add-one, arith, length-append}
 use Rattle.std.proofs.lemmas.Bool.{cond-false, ne_eqb}
 use Rattle.records.specs.declared.nodes.Node.{Node}
 use Rattle.records.specs.declared.operations.Code.{Code}
@@ -9,7 +9,7 @@ use Rattle.document.specs.Tree.{Forest, nil, node}
 use Rattle.document.specs.Listing.{rows}
 use Rattle.changes.specs.Changes.{Change, ◌⊕◌}
 use Rattle.changes.proofs.Rows.{⊕-nil}
-use Rattle.changes.specs.Reduced.{insertion, deletion_of, replacement}
+use Rattle.changes.specs.Reduced.{insertion, deletion_of}
 use Rattle.changes.specs.Tables.{operation_rows, node_rows}
 use Rattle.changes.specs.Tests.{is_empty}
 use Rattle.walk.specs.Written.{written}

@@ -1,17 +1,16 @@
 -- The reduced list of the definition is the one that is read off node by node.
-use Rattle.std.proofs.Common.{◌≡◌, ℕ, Bool, true, false, cond, not, ◌||◌, List, [], ◌∷◌, ◌++◌, Some, None, Option, sym, refl, ap, ◌∙◌, ap₂, true≢false, append_assoc, arith}
+use Rattle.std.proofs.Common.{◌≡◌, ℕ, Bool, true, false, cond, not, ◌||◌, List, [], ◌∷◌, ◌++◌, Option, sym, refl, ap, ◌∙◌, ap₂, true≢false, append_assoc, arith}
 use Rattle.records.specs.declared.nodes.Kind.TheVariants.{Attribute}
 use Rattle.records.specs.declared.operations.Code.{Code}
 use Rattle.records.specs.declared.operations.Code.TheVariants.{InsertBefore, InsertAfter, InsertFirst, InsertInto, InsertLast, InsertAttributes, Delete, ReplaceNode, ReplaceValue, ReplaceContent, Rename}
 use Rattle.document.specs.Tree.{Label, Forest, nil, node}
-use Rattle.document.proofs.Tested.{some_none}
 use Rattle.changes.specs.Changes.{Change, ◌⊕◌, same_code, changes_on, joined_nodes, first_of, nodes_given, value_given, name_given, is_some}
 use Rattle.changes.specs.Marks.{NodeChanges, MarkedLabel, MarkedForest, no_marks, marked, node_changes, mark_labels, mark, removed}
-use Rattle.changes.specs.Reduced.{cleared_labels, cleared, unless_empty, left_on_removed, left_on_kept, left_on_node, left_on_labels, without_overridden, before_first, gathered_on_node, gathered_by_gap, reduced_marks, insertion, deletion_of, replacement, new_value, new_name, changes_by_code, label_changes_in_order, changes_in_order, reduced}
+use Rattle.changes.specs.Reduced.{cleared_labels, cleared, unless_empty, left_on_removed, left_on_kept, left_on_node, left_on_labels, without_overridden, before_first, gathered_on_node, gathered_by_gap, insertion, deletion_of, replacement, new_value, new_name, changes_by_code, label_changes_in_order, changes_in_order, reduced}
 use Rattle.changes.specs.Overriding.{has_change}
 use Rattle.changes.specs.Tests.{is_empty}
 use Rattle.changes.proofs.Fitting.{Fitting, FitLabels, Fit}
-use Rattle.reduce.specs.Mirror.{group, value_on, name_on, goes, cuts, departure, given_if, left_on_attribute, left_on_attributes, gap, left_inside, left_on, reduced_row}
+use Rattle.reduce.specs.Mirror.{group, goes, cuts, given_if, left_on_attributes, gap, left_on, reduced_row}
 
 -- no change of a code, no nodes of it
 pub joined_none : (c : Code) (l : List Change) → is_some (first_of c l) ≡ false → joined_nodes c l ≡ nil

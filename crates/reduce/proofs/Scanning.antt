@@ -1,22 +1,21 @@
 -- The operations and nodes of one target and code, in the tables of a list.
-use Rattle.std.proofs.Common.{◌≡◌, ℕ, zero, suc, ◌+◌, ◌-◌, ◌<◌, ◌≤◌, Bool, true, false, cond, ◌&&◌, eqb, List, [], ◌∷◌, ◌++◌, length, get_or, take, drop, set, is_some as option_is_some, Some, None, Option, sym, refl, ap, ◌∙◌, subst, ap₂, append_assoc, add-one, arith, length-append, length-drop, drop-cons}
-use Rattle.std.proofs.lemmas.List.{length-take-le, drop_all, drop-drop}
-use Rattle.records.specs.Formed.{code_number}
+use Rattle.std.proofs.Common.{◌≡◌, ℕ, zero, suc, ◌+◌, ◌-◌, ◌<◌, ◌≤◌, Bool, true, false, cond, eqb, List, [], ◌∷◌, ◌++◌, length, get_or, take, drop, set, is_some as option_is_some, Some, None, Option, sym, refl, ap, ◌∙◌, subst, ap₂, append_assoc, add-one, arith, length-append, length-drop, drop-cons}
+use Rattle.std.proofs.lemmas.List.{length-take-le, drop-drop}
 use Rattle.records.specs.declared.nodes.Node.{Node}
 use Rattle.records.specs.declared.nodes.Kind.TheVariants.{Element}
 use Rattle.records.specs.declared.operations.Code.{Code}
 use Rattle.records.specs.declared.operations.Code.TheVariants.{InsertBefore}
 use Rattle.records.specs.declared.operations.Operation.{Operation}
-use Rattle.document.specs.Tree.{Label, Forest, nil, node}
+use Rattle.document.specs.Tree.{Forest, nil, node}
 use Rattle.document.specs.Listing.{row, attribute_rows, rows}
-use Rattle.changes.specs.Changes.{Change, ◌⊕◌, same_code, changes_on, joined_nodes, first_of, value_given, name_given, is_some}
+use Rattle.changes.specs.Changes.{Change, ◌⊕◌, same_code, changes_on, first_of, value_given, name_given, is_some}
 use Rattle.changes.specs.Tables.{trees_of, changes_of}
 use Rattle.changes.specs.Overriding.{has_change}
 use Rattle.walk.specs.Written.{written}
 use Rattle.walk.proofs.Writing.{written-++}
 use Rattle.reduce.specs.declared.lookup.Key.{Key}
-use Rattle.reduce.specs.Mirror.{group, value_on, name_on}
-use Rattle.reduce.specs.Groups.{is_for, first_operation, Stretches, blank, key, gathered}
+use Rattle.reduce.specs.Mirror.{group}
+use Rattle.reduce.specs.Groups.{is_for, first_operation, Stretches, blank, key}
 
 -- LISTS
 pub front : {X : Type 0} → (xs : List X) (i : ℕ) (d : X) → i < length xs → drop i xs ≡ get_or xs i d ∷ drop (i + 1) xs

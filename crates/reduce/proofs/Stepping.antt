@@ -1,15 +1,15 @@
 -- One step of the walk that writes the reduced list.
-use Rattle.std.proofs.Common.{◌≡◌, ℕ, ◌+◌, ◌<◌, ◌≤◌, Bool, true, false, cond, eqb, ◌⊎◌, List, [], ◌∷◌, ◌++◌, length, Option, sym, refl, ap, ◌∙◌, subst, ap₂, inl, inr, append_assoc, arith}
-use Rattle.std.proofs.lemmas.Bool.{cond-true, cond-false, ne_eqb, cases_Bool}
+use Rattle.std.proofs.Common.{◌≡◌, ℕ, ◌<◌, Bool, true, false, cond, eqb, List, [], ◌∷◌, ◌++◌, length, sym, refl, ap, ◌∙◌, ap₂, append_assoc, arith}
+use Rattle.std.proofs.lemmas.Bool.{cond-true, cond-false, ne_eqb}
 use Rattle.records.specs.declared.operations.Code.TheVariants.{InsertBefore, InsertLast}
-use Rattle.document.specs.Tree.{Label, Forest, nil, node, size}
+use Rattle.document.specs.Tree.{Label, Forest, nil, node}
 use Rattle.store.specs.Kept.{Kept}
-use Rattle.store.specs.Views.{View, first_of, first_label, view}
+use Rattle.store.specs.Views.{first_of, first_label, view}
 use Rattle.store.specs.Links.{link_of}
 use Rattle.changes.specs.Changes.{Change}
-use Rattle.walk.specs.Ahead.{Row, row_below, ahead, behind_node, after_node, Walks, attributes_of, labels_at, over, size_ahead}
-use Rattle.walk.proofs.Trails.{Trail, below, along}
-use Rattle.walk.proofs.Walking.{NodeStep, Goes, Left, zero_ahead, zero_labels, above_first, node_step, left_all, label_step, goes_over, goes_after, goes_behind, goes_whole}
+use Rattle.walk.specs.Ahead.{ahead, behind_node, after_node, Walks, attributes_of, labels_at, over, size_ahead}
+use Rattle.walk.proofs.Trails.{below, along}
+use Rattle.walk.proofs.Walking.{NodeStep, Left, zero_ahead, zero_labels, above_first, node_step, left_all, label_step, goes_over, goes_after, goes_behind, goes_whole}
 use Rattle.reduce.specs.declared.lookup.Key.{Key}
 use Rattle.reduce.specs.Groups.{key, gap_key}
 use Rattle.reduce.specs.Mirror.{group, goes, cuts, left_on_attribute, left_on_attributes, gap, left_on, left_at, left_ahead, reduced_row}

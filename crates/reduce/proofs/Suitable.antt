@@ -1,21 +1,19 @@
 -- What the tests on a list make sure of, as the reduction wants it.
-use Rattle.std.proofs.Common.{◌≡◌, ℕ, ◌+◌, ◌≤◌, Bool, true, false, cond, ◌&&◌, eqb, List, [], ◌∷◌, Some, None, Option, sym, refl, ap, ◌∙◌, true≢false, arith}
+use Rattle.std.proofs.Common.{◌≡◌, ℕ, ◌+◌, Bool, true, false, eqb, List, [], ◌∷◌, Some, None, sym, refl, ap, ◌∙◌, true≢false, arith}
 use Rattle.std.proofs.lemmas.Bool.{eqb-true, and_parts, ltb-true}
 use Rattle.records.specs.Formed.{fields_suit_code}
 use Rattle.records.specs.declared.operations.Code.{Code}
 use Rattle.records.specs.declared.operations.Code.TheVariants.{ReplaceNode, ReplaceContent}
 use Rattle.document.specs.Tree.{Forest, nil, WellFormed}
 use Rattle.document.proofs.Tested.{some_none}
-use Rattle.changes.specs.Changes.{Change, ◌⊕◌, same_code, changes_on, joined_nodes, first_of, nodes_given, is_some}
-use Rattle.changes.specs.Marks.{mark}
+use Rattle.changes.specs.Changes.{Change, same_code, changes_on, joined_nodes, first_of, nodes_given, is_some}
 use Rattle.changes.specs.Reduced.{reduced}
-use Rattle.changes.specs.Overriding.{has_change}
 use Rattle.changes.specs.Tests.{first_refused, second_of_code, only_once, SoundChanges, Suits}
 use Rattle.changes.proofs.Rows.{⊕-nil}
 use Rattle.changes.proofs.Dropping.{same_code_true}
 use Rattle.changes.proofs.Passing.{passed_all, all_pass, fit_marks}
-use Rattle.reduce.specs.Mirror.{group, given_if, reduced_row}
-use Rattle.reduce.proofs.Mirroring.{joined_none, Single, mirrored}
+use Rattle.reduce.specs.Mirror.{given_if, reduced_row}
+use Rattle.reduce.proofs.Mirroring.{joined_none, mirrored}
 
 -- a change whose code comes once on its target comes there no second time
 module _ (t : ℕ) (c : Code) (once : only_once c ≡ true) where

@@ -1,5 +1,5 @@
 -- The whole reduced list, written into two tables.
-use Rattle.std.proofs.Common.{◌≡◌, ℕ, ◌+◌, ◌<◌, ◌≤◌, Bool, true, false, cond, ◌||◌, ltb, ◌⊎◌, List, [], ◌∷◌, ◌++◌, length, drop, Ok, Err, Result, sym, refl, ap, ◌∙◌, ap₂, inl, inr, zero-add, arith}
+use Rattle.std.proofs.Common.{◌≡◌, ◌<◌, ◌≤◌, Bool, true, false, ◌||◌, ltb, ◌⊎◌, List, [], ◌∷◌, length, Ok, Err, Result, sym, refl, ap, ◌∙◌, ap₂, inl, inr, zero-add, arith}
 use Rattle.std.proofs.lemmas.Bool.{cond-true, cond-false, lt-ltb, le-ltb}
 use Rattle.records.specs.declared.nodes.Node.{Node}
 use Rattle.records.specs.declared.operations.Operation.{Operation}
@@ -7,7 +7,6 @@ use Rattle.faults.specs.declared.ListFault.{ListFault}
 use Rattle.faults.specs.declared.ListFault.TheVariants.{TableShort}
 use Rattle.changes.specs.Changes.{Change}
 use Rattle.changes.specs.Tables.{operation_rows, node_rows}
-use Rattle.walk.specs.Written.{written}
 use Rattle.walk.proofs.Writing.{written_all}
 use Rattle.reduce.specs.declared.tables.Tally.{Tally}
 use Rattle.reduce.specs.Output.{Output, output, tally, Adds, too_short, write_says, operations_after, nodes_after}

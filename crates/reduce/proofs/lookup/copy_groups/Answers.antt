@@ -1,4 +1,4 @@
-use Rattle.std.proofs.Common.{◌≡◌, ℕ, ◌+◌, List, [], ◌++◌, length, get_or, drop, sym, refl, ap, ◌∙◌, ap₂, arith, length-append}
+use Rattle.std.proofs.Common.{◌≡◌, ℕ, ◌+◌, List, [], ◌++◌, length, get_or, drop, sym, ap, ◌∙◌, ap₂, arith, length-append}
 use Rattle.std.proofs.lemmas.List.{drop_all}
 use Rattle.records.specs.declared.nodes.Node.{Node}
 use Rattle.document.specs.Tree.{Forest}
@@ -13,8 +13,8 @@ use Rattle.reduce.specs.Groups.{gathered}
 use Rattle.reduce.proofs.Scanning.{front, rows-⊕, no_key}
 use Rattle.reduce.proofs.lookup.copy_groups.Goals as goal
 
-pub copy-group-at-requires : goal.copy-group-at-requires
-copy-group-at-requires c =
+pub copy_group-at-requires : goal.copy_group-at-requires
+copy_group-at-requires c =
     let l : List Change = changes_of c.args.list.operations.now c.args.list.nodes.now in
     let k : Key = get_or c.args.keys.now c.loop-key.key-index no_key in
     let A : Forest = group l k.target k.code in
@@ -33,8 +33,8 @@ loop-key-preserved c =
     let B : Forest = gathered l (drop (c.loop-key.key-index + 1) c.args.keys.now) in
     let e : rows 0 (gathered l (drop c.loop-key.key-index c.args.keys.now)) ≡ rows 0 A ++ rows 0 B =
     ap (λ (q : List Key). rows 0 (gathered l q)) (front c.args.keys.now c.loop-key.key-index no_key c.loop-key-test.true) ∙ rows-⊕ 0 A B in (
-      omega (arith, c.loop-key.invariant.0, ap length e, length-append (rows 0 A) (rows 0 B), c.copy-group-at.ensures.answer),
-      ap₂ (λ (xs : List Node) (m : ℕ). written xs m (rows 0 B)) c.copy-group-at.ensures.table c.copy-group-at.ensures.answer
+      omega (arith, c.loop-key.invariant.0, ap length e, length-append (rows 0 A) (rows 0 B), c.copy_group-at.ensures.answer),
+      ap₂ (λ (xs : List Node) (m : ℕ). written xs m (rows 0 B)) c.copy_group-at.ensures.table c.copy_group-at.ensures.answer
           ∙ (written-++ c.loop-key.table c.loop-key.at (rows 0 A) (rows 0 B) ∙ (ap (written c.loop-key.table c.loop-key.at) (sym e) ∙ c.loop-key.invariant.1)),
     )
 

@@ -1,4 +1,4 @@
-use Rattle.std.proofs.Common.{◌≡◌, ℕ, length, sym, subst, arith}
+use Rattle.std.proofs.Common.{ℕ, length, sym, subst, arith}
 use Rattle.ordered.specs.Table.{Ascending, Least}
 use Rattle.reduce.specs.Groups.{by_entry}
 use Rattle.reduce.proofs.Ordering.{entries, begins}

@@ -1,4 +1,4 @@
-use Rattle.std.proofs.Common.{◌≡◌, List, sym, ap, ◌∙◌, subst}
+use Rattle.std.proofs.Common.{List, sym, ap, ◌∙◌, subst}
 use Rattle.records.specs.declared.operations.Code.TheVariants.{InsertFirst, InsertInto, ReplaceContent}
 use Rattle.changes.specs.Changes.{Change}
 use Rattle.changes.specs.Overriding.{has_change}

@@ -1,11 +1,11 @@
-use Rattle.std.proofs.Common.{◌≡◌, cond, List, [], ◌++◌, sym, refl, ap, ◌∙◌, subst}
+use Rattle.std.proofs.Common.{cond, List, sym, ap, ◌∙◌, subst}
 use Rattle.std.proofs.lemmas.Bool.{cond-true, cond-false}
 use Rattle.records.specs.declared.operations.Code.TheVariants.{InsertAfter}
 use Rattle.document.specs.Tree.{Forest}
 use Rattle.changes.specs.Changes.{Change, ◌⊕◌}
 use Rattle.changes.specs.Reduced.{insertion}
 use Rattle.changes.specs.Tables.{changes_of}
-use Rattle.reduce.specs.Mirror.{group, goes, departure, left_inside, left_on}
+use Rattle.reduce.specs.Mirror.{group, goes, departure, left_inside}
 use Rattle.reduce.specs.Output.{output, with_changes, Adds, RoomFor}
 use Rattle.reduce.proofs.Adding.{gathered_two, adds_then, room_first, room_then}
 use Rattle.reduce.proofs.parts.left_on.Goals as goal
@@ -51,8 +51,8 @@ returns-then-goes c =
     (c.depart.ensures ∙ ap (with_changes (output c.insert-beside.new.operations c.insert-beside.new.nodes c.insert-beside.result))
     (sym (cond-true (goes l c.args.target) (departure l c.args.target) (left_inside l c.args.target H) (sym c.goes.ensures ∙ c.if-goes.true))))
 
-pub left-inside-requires : goal.left-inside-requires
-left-inside-requires c =
+pub left_inside-requires : goal.left_inside-requires
+left_inside-requires c =
     let l : List Change = changes_of c.args.list.operations.now c.args.list.nodes.now in
     let G : Forest = group l c.args.behind.target c.args.behind.code in
     let A : List Change = insertion c.args.target InsertAfter (group l c.args.target InsertAfter ⊕ G) in

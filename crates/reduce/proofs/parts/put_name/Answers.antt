@@ -1,9 +1,9 @@
-use Rattle.std.proofs.Common.{◌≡◌, ℕ, Option, sym, refl, ap, ◌∙◌}
+use Rattle.std.proofs.Common.{ℕ, Option, sym, refl, ap, ◌∙◌}
 use Rattle.records.specs.declared.operations.Code.TheVariants.{Rename}
 use Rattle.document.specs.Tree.{nil}
 use Rattle.changes.specs.Changes.{Change, name_given}
 use Rattle.changes.specs.Reduced.{new_name}
-use Rattle.reduce.specs.Output.{Output, output, with_changes}
+use Rattle.reduce.specs.Output.{output, with_changes}
 use Rattle.reduce.proofs.Scanning.{name_found, none_found}
 use Rattle.reduce.proofs.Adding.{plain_change}
 use Rattle.reduce.proofs.parts.put_name.Goals as goal

@@ -1,9 +1,9 @@
-use Rattle.std.proofs.Common.{◌≡◌, ℕ, Option, sym, refl, ap, ◌∙◌}
+use Rattle.std.proofs.Common.{ℕ, Option, sym, refl, ap, ◌∙◌}
 use Rattle.records.specs.declared.operations.Code.TheVariants.{ReplaceValue}
 use Rattle.document.specs.Tree.{nil}
 use Rattle.changes.specs.Changes.{Change, value_given}
 use Rattle.changes.specs.Reduced.{new_value}
-use Rattle.reduce.specs.Output.{Output, output, with_changes}
+use Rattle.reduce.specs.Output.{output, with_changes}
 use Rattle.reduce.proofs.Scanning.{value_found, none_found}
 use Rattle.reduce.proofs.Adding.{plain_change}
 use Rattle.reduce.proofs.parts.put_value.Goals as goal

@@ -1,4 +1,4 @@
-use Rattle.std.proofs.Common.{◌≡◌, ℕ, List, [], ◌++◌, sym, refl, ap, ◌∙◌, subst, arith}
+use Rattle.std.proofs.Common.{ℕ, List, sym, refl, ap, ◌∙◌, subst, arith}
 use Rattle.document.specs.Tree.{Forest}
 use Rattle.changes.specs.Changes.{Change}
 use Rattle.changes.specs.Tables.{changes_of}
@@ -16,8 +16,8 @@ loop-id-init g c =
     let u = begins d c.kept.ensures.shape l c.root-id.result c.root-id.ensures in
     (u.0, subst (RoomFor (tally 0 0)) (sym u.1) c.requires.fits, ap (with_changes (output c.args.operations.now c.args.nodes.now (tally 0 0))) u.1)
 
-pub reduce-node-at-requires : goal.reduce-node-at-requires
-reduce-node-at-requires g c =
+pub reduce_node-at-requires : goal.reduce_node-at-requires
+reduce_node-at-requires g c =
     let d : Forest = g.R.Reading.forest c.args.store.now in
     let l : List Change = changes_of c.args.list.operations.now c.args.list.nodes.now in
     let u = node_reduced d c.kept.ensures.shape l c.loop-id.id _ c.loop-id.invariant.0 c.loop-id-test.true refl in
@@ -43,9 +43,9 @@ loop-id-preserved g c =
     let A : List Change = left_ahead l (ahead d x) in
     let B : List Change = over (reduced_row l) (ahead d y) in (
       u.walks,
-      room_then c.loop-id.operations c.loop-id.nodes c.loop-id.at c.reduce-node-at.new.operations c.reduce-node-at.new.nodes c.reduce-node-at.result A B c.reduce-node-at.ensures
+      room_then c.loop-id.operations c.loop-id.nodes c.loop-id.at c.reduce_node-at.new.operations c.reduce_node-at.new.nodes c.reduce_node-at.result A B c.reduce_node-at.ensures
           (subst (RoomFor c.loop-id.at) u.all c.loop-id.invariant.1),
-      ap (λ (s : Output). with_changes s B) c.reduce-node-at.ensures
+      ap (λ (s : Output). with_changes s B) c.reduce_node-at.ensures
           ∙ (sym (with_changes-++ (output c.loop-id.operations c.loop-id.nodes c.loop-id.at) A B)
           ∙ (ap (with_changes (output c.loop-id.operations c.loop-id.nodes c.loop-id.at)) (sym u.all) ∙ c.loop-id.invariant.2)),
     )

@@ -1,17 +1,16 @@
-use Rattle.std.proofs.Common.{◌≡◌, List, [], length, sym, refl, ap, ◌∙◌, subst, arith}
+use Rattle.std.proofs.Common.{◌≡◌, List, [], length, sym, ap, ◌∙◌, subst, arith}
 use Rattle.document.specs.Tree.{Forest}
 use Rattle.changes.specs.Changes.{Change}
 use Rattle.changes.specs.Reduced.{reduced}
 use Rattle.changes.specs.Tables.{changes_of, operation_rows, node_rows}
 use Rattle.reduce.specs.declared.tables.Tally.{Tally}
-use Rattle.reduce.specs.Mirror.{reduced_row}
 use Rattle.reduce.specs.Output.{output, tally, with_changes, RoomFor}
 use Rattle.reduce.proofs.Suitable.{reduced_is_read_off}
-use Rattle.reduce.proofs.Whole.{needed, short, is_short, filled, Written}
+use Rattle.reduce.proofs.Whole.{needed, short, is_short, filled}
 use Rattle.reduce.proofs.reducing.write_reduced.Goals as goal
 
-pub reduce-all-need-requires : goal.reduce-all-need-requires
-reduce-all-need-requires g c =
+pub reduce_all-need-requires : goal.reduce_all-need-requires
+reduce_all-need-requires g c =
     let d : Forest = g.R.Reading.forest c.args.store.now in
     let l : List Change = changes_of c.args.list.operations.now c.args.list.nodes.now in
     record { ready = c.requires.ready; fits = subst (RoomFor (tally 0 0)) (reduced_is_read_off (g.R.Reading.limit c.args.store.now) d l c.requires.formed c.requires.suits) c.requires.fits }
@@ -21,13 +20,13 @@ returns-then-operations-need g c =
     let d : Forest = g.R.Reading.forest c.args.store.now in
     let l : List Change = changes_of c.args.list.operations.now c.args.list.nodes.now in
     let e = reduced_is_read_off (g.R.Reading.limit c.args.store.now) d l c.requires.formed c.requires.suits in
-    let n : c.reduce-all-need.result ≡ tally (length (operation_rows (reduced d l))) (length (node_rows (reduced d l))) =
-    needed (reduced d l) [] [] [] _ [] _ c.reduce-all-need.result (c.reduce-all-need.ensures ∙ ap (with_changes (output [] [] (tally 0 0))) (sym e)) in
-    let w = short (reduced d l) c.args.operations.now c.args.nodes.now (is_short (reduced d l) c.args.operations.now c.args.nodes.now c.reduce-all-need.result n c.then-operations-need.either) in
-    record { value = w.value; operation-table = w.operations; node-table = w.nodes }
+    let n : c.reduce_all-need.result ≡ tally (length (operation_rows (reduced d l))) (length (node_rows (reduced d l))) =
+    needed (reduced d l) [] [] [] _ [] _ c.reduce_all-need.result (c.reduce_all-need.ensures ∙ ap (with_changes (output [] [] (tally 0 0))) (sym e)) in
+    let w = short (reduced d l) c.args.operations.now c.args.nodes.now (is_short (reduced d l) c.args.operations.now c.args.nodes.now c.reduce_all-need.result n c.then-operations-need.either) in
+    record { value = w.value; operation_table = w.operations; node_table = w.nodes }
 
-pub reduce-all-requires : goal.reduce-all-requires
-reduce-all-requires g c =
+pub reduce_all-requires : goal.reduce_all-requires
+reduce_all-requires g c =
     let d : Forest = g.R.Reading.forest c.args.store.now in
     let l : List Change = changes_of c.args.list.operations.now c.args.list.nodes.now in
     record { ready = c.requires.ready; fits = subst (RoomFor (tally 0 0)) (reduced_is_read_off (g.R.Reading.limit c.args.store.now) d l c.requires.formed c.requires.suits) c.requires.fits }
@@ -37,9 +36,9 @@ returns g c =
     let d : Forest = g.R.Reading.forest c.args.store.now in
     let l : List Change = changes_of c.args.list.operations.now c.args.list.nodes.now in
     let e = reduced_is_read_off (g.R.Reading.limit c.args.store.now) d l c.requires.formed c.requires.suits in
-    let n : c.reduce-all-need.result ≡ tally (length (operation_rows (reduced d l))) (length (node_rows (reduced d l))) =
-    needed (reduced d l) [] [] [] _ [] _ c.reduce-all-need.result (c.reduce-all-need.ensures ∙ ap (with_changes (output [] [] (tally 0 0))) (sym e)) in
-    let w = filled (reduced d l) c.args.operations.now c.args.nodes.now c.reduce-all.new.operations c.reduce-all.new.nodes c.reduce-all.result
+    let n : c.reduce_all-need.result ≡ tally (length (operation_rows (reduced d l))) (length (node_rows (reduced d l))) =
+    needed (reduced d l) [] [] [] _ [] _ c.reduce_all-need.result (c.reduce_all-need.ensures ∙ ap (with_changes (output [] [] (tally 0 0))) (sym e)) in
+    let w = filled (reduced d l) c.args.operations.now c.args.nodes.now c.reduce_all.new.operations c.reduce_all.new.nodes c.reduce_all.result
     (omega (arith, ap (λ (q : Tally). q.operations) n, c.if-operations-need.false)) (omega (arith, ap (λ (q : Tally). q.nodes) n, c.if-nodes-need.false))
-    (c.reduce-all.ensures ∙ ap (with_changes (output c.args.operations.now c.args.nodes.now (tally 0 0))) (sym e)) in
-    record { value = w.value; operation-table = w.operations; node-table = w.nodes }
+    (c.reduce_all.ensures ∙ ap (with_changes (output c.args.operations.now c.args.nodes.now (tally 0 0))) (sym e)) in
+    record { value = w.value; operation_table = w.operations; node_table = w.nodes }
