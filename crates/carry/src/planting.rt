@@ -1,7 +1,7 @@
 // Trees put into a store row by row.
 ghost use Rattle.std.specs.Prelude.{◌≡◌, cond, []};
 ghost use Rattle.store.specs.Listed.{child_row, last_from};
-ghost use Rattle.carry.specs.Planting.{placed as Placed-below, left_for, plant_says, plant_leaves};
+ghost use Rattle.carry.specs.Planting.{placed as placed_below, left_for, plant_says, plant_leaves};
 
 use faults::StoreFault;
 use records::{Kind, Node};
@@ -42,7 +42,7 @@ fn left_of(before: &[Node], left: u32, row: Node) -> u32
 
 // Roots come below `parent`.
 fn placed(parent: u32, row: Node) -> Node
-    ensures { result ≡ Placed-below parent row }
+    ensures { result ≡ placed_below parent row }
 {
     if row.parent == 0 {
         Node { parent, ..row }

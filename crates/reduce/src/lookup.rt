@@ -4,7 +4,7 @@ ghost use Rattle.document.specs.Listing.{rows};
 ghost use Rattle.changes.specs.Tables.{changes_of};
 ghost use Rattle.changes.specs.Overriding.{has_change};
 ghost use Rattle.walk.specs.Written.{written};
-ghost use Rattle.reduce.specs.Mirror.{group, goes as Goes-of};
+ghost use Rattle.reduce.specs.Mirror.{group, goes as goes_of};
 ghost use Rattle.reduce.specs.Groups.{entry_for, Begins, first_operation, Ready, gathered};
 
 use crate::tables::copy;
@@ -118,7 +118,7 @@ pub fn copy_groups(list: Lookup, keys: &[Key], table: &mut [Node], n: usize) -> 
 // Whether a node goes.
 pub fn goes(list: Lookup, target: u32) -> bool
     requires { Ready list.operations.now list.nodes.now list.entries.now }
-    ensures { result ≡ Goes-of (changes_of list.entry.operations.now list.entry.nodes.now) target }
+    ensures { result ≡ goes_of (changes_of list.entry.operations.now list.entry.nodes.now) target }
 {
     has(
         list,
