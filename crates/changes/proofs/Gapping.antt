@@ -1,7 +1,7 @@
 -- The changes of gathered marks insert behind a child or first in an element.
 use Rattle.std.proofs.Common.{◌≡◌, ℕ, Bool, true, false, List, [], ◌∷◌, ◌++◌, Some, None, Option, refl}
 use Rattle.records.specs.declared.operations.Code.{Code}
-use Rattle.records.specs.declared.operations.Code.TheVariants.{InsertBefore, InsertAfter, InsertFirst, InsertInto, InsertLast, InsertAttributes, Delete, ReplaceNode, ReplaceValue, ReplaceContent, Rename}
+use Rattle.records.specs.declared.operations.Code.TheVariants.{InsertAfter, InsertFirst, InsertAttributes, ReplaceNode, ReplaceContent}
 use Rattle.document.specs.Tree.{Forest, nil, node}
 use Rattle.changes.specs.Changes.{Change}
 use Rattle.changes.specs.Marks.{NodeChanges, MarkedLabel, MarkedForest, no_marks, marked}

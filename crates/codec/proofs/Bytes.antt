@@ -1,9 +1,9 @@
 -- Records as bytes, and back.
-use Rattle.std.proofs.Common.{◌≡◌, ℕ, suc, ◌+◌, ◌*◌, ◌/◌, ◌%◌, ◌<◌, ◌≤◌, List, [], ◌∷◌, ◌++◌, length, get_or, take, drop, sym, refl, ap, ◌∙◌, ap₂, add-one, arith}
+use Rattle.std.proofs.Common.{◌≡◌, ℕ, suc, ◌+◌, ◌*◌, ◌/◌, ◌%◌, ◌<◌, ◌≤◌, List, [], ◌∷◌, ◌++◌, length, get_or, take, drop, sym, ap, ◌∙◌, arith}
 use lib.Arith.{digits_div, mod-mul}
 use Rattle.std.proofs.lemmas.List.{drop_more}
 use Rattle.codec.specs.declared.spelling.Record.{Record}
-use Rattle.codec.specs.Codec.{two_bytes, four_bytes, bytes_of_two, bytes_of_four, record_of, bytes_of}
+use Rattle.codec.specs.Codec.{bytes_of_two, bytes_of_four, record_of, bytes_of}
 
 two_back : (a b : ℕ) → a < 256 → b < 256 → bytes_of_two (a + b * 256) ≡ a ∷ b ∷ []
 two_back a b p q =

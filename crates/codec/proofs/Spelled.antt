@@ -1,5 +1,5 @@
 -- A record and what it spells determine each other.
-use Rattle.std.proofs.Common.{◌≡◌, ℕ, Bool, true, false, cond, eqb, Some, None, Option, sym, refl, ap, ◌∙◌, arith}
+use Rattle.std.proofs.Common.{◌≡◌, ℕ, Bool, true, false, eqb, Some, None, Option, sym, refl, arith}
 use Rattle.std.proofs.lemmas.Bool.{eqb-true}
 use Rattle.std.proofs.lemmas.Bool.Decides.{nat_tests}
 use Rattle.codec.specs.declared.spelling.Record.{Record}
@@ -10,7 +10,7 @@ use Rattle.records.specs.declared.operations.Code.{Code}
 use Rattle.records.specs.declared.operations.Code.TheVariants.{InsertBefore, InsertAfter, InsertFirst, InsertInto, InsertLast, InsertAttributes, Delete, ReplaceNode, ReplaceValue, ReplaceContent, Rename}
 use Rattle.records.specs.declared.operations.Operation.{Operation}
 use Rattle.records.specs.Formed.{kind_number, kind_of, formed_node, code_number, code_of, formed_operation}
-use Rattle.codec.specs.Fields.{if_formed_node, node_of_kind, node_of, record_of_node, if_formed_operation, operation_of_code, operation_of, record_of_operation}
+use Rattle.codec.specs.Fields.{node_of_kind, node_of, record_of_node, operation_of_code, operation_of, record_of_operation}
 
 kind_back : (k : Kind) → kind_of (kind_number k) ≡ Some k
 kind_back Element = refl

@@ -4,7 +4,7 @@ use Rattle.std.proofs.lemmas.Bool.{eq-eqb, eqb-true, lt-ltb}
 use Rattle.records.specs.declared.nodes.Kind.{Kind}
 use Rattle.records.specs.declared.nodes.Kind.TheVariants.{Element, Attribute, Text}
 use Rattle.records.specs.declared.nodes.Node.{Node}
-use Rattle.document.specs.Tree.{Label, Forest, nil, node, one, count, Above, Formed, Attributes, Holds, Sound, WellFormed}
+use Rattle.document.specs.Tree.{Label, Forest, nil, node, count, Above, Attributes, Holds, Sound, WellFormed}
 use Rattle.document.specs.Listing.{attribute_rows, rows, listing, attribute_depths, row_depths, depths}
 use Rattle.document.specs.Table.{closed_to, order_from, out_of_order, depth_from}
 use Rattle.document.specs.Statements.{DepthsOfListing}

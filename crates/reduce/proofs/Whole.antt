@@ -3,8 +3,8 @@ use Rattle.std.proofs.Common.{◌≡◌, ◌<◌, ◌≤◌, Bool, true, false, 
 use Rattle.std.proofs.lemmas.Bool.{cond-true, cond-false, lt-ltb, le-ltb}
 use Rattle.records.specs.declared.nodes.Node.{Node}
 use Rattle.records.specs.declared.operations.Operation.{Operation}
-use Rattle.faults.specs.declared.ListFault.{ListFault}
-use Rattle.faults.specs.declared.ListFault.TheVariants.{TableShort}
+use Rattle.reduce.specs.declared.tables.TableFault.{TableFault}
+use Rattle.reduce.specs.declared.tables.TableFault.TheVariants.{TableShort}
 use Rattle.changes.specs.Changes.{Change}
 use Rattle.changes.specs.Tables.{operation_rows, node_rows}
 use Rattle.walk.proofs.Writing.{written_all}
@@ -17,7 +17,7 @@ length_operation_rows [] = refl
 length_operation_rows (o ∷ l) = omega (arith, length_operation_rows l)
 
 -- what is answered and left where the list is l
-pub record Written (os : List Operation) (ns : List Node) (l : List Change) (r : Result Tally ListFault) (os' : List Operation) (ns' : List Node) : Type 0 where
+pub record Written (os : List Operation) (ns : List Node) (l : List Change) (r : Result Tally TableFault) (os' : List Operation) (ns' : List Node) : Type 0 where
   pub value : r ≡ write_says os ns l
   pub operations : os' ≡ operations_after os ns l
   pub nodes : ns' ≡ nodes_after os ns l

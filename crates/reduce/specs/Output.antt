@@ -1,7 +1,7 @@
 -- Two tables that a list is written into, and how far they are used.
 use Rattle.std.specs.Prelude.{◌≡◌, ℕ, ◌+◌, ◌^◌, ◌<◌, Bool, cond, ◌||◌, List, [], ◌∷◌, ◌++◌, length, drop, Ok, Err, Result, nat_lt}
-use Rattle.faults.specs.declared.ListFault.{ListFault}
-use Rattle.faults.specs.declared.ListFault.TheVariants.{TableShort}
+use Rattle.reduce.specs.declared.tables.TableFault.{TableFault}
+use Rattle.reduce.specs.declared.tables.TableFault.TheVariants.{TableShort}
 use Rattle.records.specs.declared.nodes.Node.{Node}
 use Rattle.records.specs.declared.operations.Operation.{Operation}
 use Rattle.document.specs.Listing.{rows}
@@ -46,7 +46,7 @@ RoomFor t l = (t.operations + length l < 2 ^ 32) × (t.nodes + length (node_rows
 abbrev pub too_short : List Operation → List Node → List Change → Bool
 too_short os ns l = nat_lt (length os) (length (operation_rows l)) || nat_lt (length ns) (length (node_rows l))
 
-abbrev pub write_says : List Operation → List Node → List Change → Result Tally ListFault
+abbrev pub write_says : List Operation → List Node → List Change → Result Tally TableFault
 write_says os ns l = cond (too_short os ns l) (Err TableShort) (Ok (tally (length (operation_rows l)) (length (node_rows l))))
 
 abbrev pub operations_after : List Operation → List Node → List Change → List Operation

@@ -10,4 +10,4 @@ mod tables;
 pub use filling::fill;
 pub use lookup::{Entry, Lookup};
 pub use reducing::write_reduced;
-pub use tables::Tally;
+pub use tables::{TableFault, Tally};

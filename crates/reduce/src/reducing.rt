@@ -11,8 +11,7 @@ ghost use Rattle.reduce.specs.Output.{tally, Adds, RoomFor, write_says, operatio
 
 use crate::lookup::{Key, Lookup, goes, has};
 use crate::parts::{left_on, left_on_attribute};
-use crate::tables::Tally;
-use faults::ListFault;
+use crate::tables::{TableFault, Tally};
 use records::{Code, Node, Operation};
 use store::Reading;
 use walk::{after, behind, first_attribute, first_child, next_attribute, next_sibling, parent};
@@ -130,7 +129,7 @@ pub fn write_reduced<R: Reading>(
     list: Lookup,
     operations: &mut [Operation],
     nodes: &mut [Node],
-) -> Result<Tally, ListFault>
+) -> Result<Tally, TableFault>
     requires ready { Ready list.operations.now list.nodes.now list.entries.now }
     requires formed { WellFormed (R.Reading.forest store.now) }
     requires suits { Suits (R.Reading.limit store.now) (R.Reading.forest store.now) (changes_of list.operations.now list.nodes.now) }
@@ -141,7 +140,7 @@ pub fn write_reduced<R: Reading>(
 {
     let need = reduce_all(store, list, &mut [], &mut []);
     if operations.len() < need.operations || nodes.len() < need.nodes {
-        return Err(ListFault::TableShort);
+        return Err(TableFault::TableShort);
     }
     Ok(reduce_all(store, list, operations, nodes))
 }

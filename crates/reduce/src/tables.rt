@@ -11,6 +11,13 @@ pub struct Tally {
     pub nodes: usize,
 }
 
+// Why a list is not written.
+#[derive(Clone, Copy, PartialEq, Eq, Debug)]
+pub enum TableFault {
+    // A table is too short for the list's operations or for their nodes.
+    TableShort,
+}
+
 // Puts an entry at the place `n`, and answers the place behind it.
 pub fn push<T: Copy>(table: &mut [T], n: usize, entry: T) -> usize
     requires { n < 2 ^ 32 }

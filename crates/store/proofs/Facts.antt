@@ -1,8 +1,8 @@
 -- That a store may hold a document is a fact: it holds in one way only. So are equations between what is seen of nodes.
-use Rattle.std.proofs.Common.{◌≡◌, ℕ, ◌<◌, ◌≤◌, List, [], ◌∷◌, Some, None, Option, sym, refl, ap, ◌∙◌}
+use Rattle.std.proofs.Common.{◌≡◌, ℕ, List, [], ◌∷◌, Some, None, Option, sym, refl, ap, ◌∙◌}
 use mathlib.Core.Bool.{Bool-set}
 use mathlib.Core.List.{is_set}
-use mathlib.Core.HLevel.{⊥_prop, Unit-prop, Π_prop, ×_prop, ×₃_prop, collapsible→set}
+use mathlib.Core.HLevel.{⊥_prop, Unit-prop, ×_prop, ×₃_prop, collapsible→set}
 use native.Mathlib.Nat.{ℕ_set}
 use native.Mathlib.Bridge.{le_prop}
 use base.Stored.{Coded-set}
@@ -10,7 +10,7 @@ use Rattle.records.specs.declared.nodes.Kind.{Kind}
 use Rattle.records.specs.declared.nodes.Kind.TheVariants.{Element, Attribute, Text}
 use Rattle.records.specs.contracts.nodes.Kind.{the_row as kind_row}
 use Rattle.records.specs.contracts.nodes.Node.{the_row as Node-row}
-use Rattle.document.specs.Tree.{Label, Forest, nil, node, Formed, Holds, Attributes, Above}
+use Rattle.document.specs.Tree.{Label, Forest, nil, node, Holds, Attributes, Above}
 use Rattle.store.specs.Kept.{Kept, Shaped, AtMostOne}
 use Rattle.store.specs.Meaning.{labels_set, documents_set}
 use Rattle.store.specs.Views.{View, view_set}

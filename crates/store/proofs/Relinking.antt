@@ -1,7 +1,7 @@
 -- Which nodes have a link to the node that is taken out.
-use Rattle.std.proofs.Common.{◌≡◌, ℕ, ◌<◌, ◌≤◌, Bool, true, false, cond, ◌&&◌, eqb, ltb, ◌⊎◌, List, [], ◌∷◌, Some, None, Option, sym, refl, ap, ◌∙◌, subst, inl, inr, arith}
+use Rattle.std.proofs.Common.{◌≡◌, ℕ, ◌<◌, Bool, true, false, cond, ◌&&◌, eqb, ltb, ◌⊎◌, List, [], ◌∷◌, Some, None, Option, sym, refl, ap, ◌∙◌, subst, inl, inr, arith}
 use Rattle.std.specs.Option.{option_map}
-use Rattle.std.proofs.lemmas.Bool.{eq-eqb, ne_eqb, eqb-true, lt-ltb, le-ltb, cases_eq, true≢false, and_from, and_parts}
+use Rattle.std.proofs.lemmas.Bool.{eq-eqb, ne_eqb, eqb-true, lt-ltb, le-ltb, true≢false, and_from, and_parts}
 use Rattle.document.specs.Tree.{Label, Forest, count, Attributes, Above}
 use Rattle.document.specs.Table.{is_attribute}
 use Rattle.store.specs.Kept.{Kept}
@@ -9,7 +9,7 @@ use Rattle.store.specs.Views.{View, view, view_attribute, attribute_view, first_
 use Rattle.store.specs.Links.{passed_on, unlinked, label_before, attribute_before, relinked_past, relinked_past_child, relinked_past_attribute, TakeRelinks}
 use Rattle.store.proofs.Along.{seen}
 use Rattle.store.proofs.Shapes.{no_zero}
-use Rattle.store.proofs.Standing.{Leads, Chain, NodeStands, AttributeStands, stands}
+use Rattle.store.proofs.Standing.{Leads, NodeStands, AttributeStands, stands}
 use Rattle.store.proofs.Telling.{SeenLabels}
 use Rattle.store.proofs.Unlinking.{take_unlinks}
 

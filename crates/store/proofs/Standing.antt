@@ -1,7 +1,7 @@
 -- How a node stands among its neighbours: which nodes lead to it.
 use Rattle.std.proofs.Common.{◌≡◌, ℕ, ◌+◌, ◌<◌, ◌≤◌, Bool, true, false, cond, eqb, ◌⊎◌, List, [], ◌∷◌, Some, None, Option, sym, refl, ap, ◌∙◌, subst, inl, inr, arith}
 use Rattle.std.proofs.lemmas.Bool.{eq-eqb, eqb-true}
-use Rattle.document.specs.Tree.{Label, Forest, nil, node, one, count_labels, count, Attributes, Above}
+use Rattle.document.specs.Tree.{Label, Forest, nil, node, count_labels, count, Attributes, Above}
 use Rattle.document.specs.Table.{is_attribute}
 use Rattle.document.proofs.Gathering.{holder_no_attribute}
 use Rattle.store.specs.Kept.{Kept, Shaped, AtMostOne}

@@ -1,9 +1,9 @@
 -- What is seen of its nodes tells a document.
-use Rattle.std.proofs.Common.{◌≡◌, ℕ, ◌+◌, ◌<◌, ◌≤◌, Bool, true, false, cond, eqb, List, [], ◌∷◌, Some, None, Option, sym, refl, ap, ◌∙◌, subst, arith}
-use Rattle.std.proofs.lemmas.Bool.{eq-eqb, eqb-true, cond-true, cond-false}
+use Rattle.std.proofs.Common.{◌≡◌, ℕ, ◌+◌, ◌≤◌, Bool, true, false, eqb, List, [], ◌∷◌, Some, None, Option, sym, refl, ap, ◌∙◌, subst, arith}
+use Rattle.std.proofs.lemmas.Bool.{eq-eqb, cond-true, cond-false}
 use Rattle.document.specs.Tree.{Label, Forest, nil, node, one, count_labels, count, Attributes}
 use Rattle.document.specs.Listing.{label}
-use Rattle.store.specs.Kept.{Kept, Shaped}
+use Rattle.store.specs.Kept.{Shaped}
 use Rattle.store.specs.Views.{View, view, view_in, view_attribute, node_view, attribute_view, first_of, first_label, or_else}
 use Rattle.store.specs.Statements.{ViewsTellTheDocument}
 use Rattle.store.proofs.Along.{absent, absent_label, unseen, unseen_label}

@@ -1,4 +1,4 @@
-use Rattle.std.proofs.Common.{◌≡◌, ℕ, List, [], ◌∷◌, get_or, sym, refl, ap, ◌∙◌, arith}
+use Rattle.std.proofs.Common.{◌≡◌, ℕ, List, [], ◌∷◌, get_or, ap, ◌∙◌, arith}
 use Rattle.codec.specs.declared.spelling.Record.{Record}
 use Rattle.codec.specs.Codec.{record_of, bytes_of, bytes_of_two, bytes_of_four}
 use Rattle.codec.proofs.Bytes.{record_from}

@@ -1,4 +1,4 @@
-use Rattle.std.proofs.Common.{◌≡◌, false, ltb, length, get_or, sym, refl, ap, ◌∙◌, arith, rules, le-ltb}
+use Rattle.std.proofs.Common.{◌≡◌, false, ltb, length, get_or, ap, ◌∙◌, arith, le-ltb}
 use Rattle.codec.specs.declared.spelling.Record.{Record}
 use Rattle.codec.specs.Codec.{record_of, bytes_of}
 use Rattle.codec.proofs.Bytes.{record_back}
