@@ -1,11 +1,10 @@
 -- What a linked store's memory tells of the document that it holds.
-use Rattle.std.proofs.Common.{◌≡◌, ℕ, ◌≤◌, List, Some, None, Ok, Err, vec_items, vec_len, Option, Result, sym, refl, subst, subst₂}
+use Rattle.std.proofs.Common.{◌≡◌, ℕ, ◌≤◌, List, Some, None, Ok, Err, vec_items, vec_len, Option, sym, refl, subst, subst₂}
 use mathlib.Core.Logic.{∥∥₁_elim}
 use native.Mathlib.Nat.{ℕ_set}
 use native.Mathlib.Bridge.{le_prop}
 use base.Stored.{Coded-set}
 use Rattle.std.specs.Option.{option_map}
-use Rattle.faults.specs.declared.StoreFault.{StoreFault}
 use Rattle.faults.specs.declared.StoreFault.TheVariants.{Absent}
 use Rattle.document.specs.Tree.{Forest, size}
 use Rattle.store.specs.Kept.{Kept}

@@ -1,5 +1,5 @@
 -- One row, as the links that are led elsewhere leave it.
-use Rattle.std.proofs.Common.{◌≡◌, ℕ, Bool, true, false, cond, ◌&&◌, eqb, ◌⊎◌, Some, None, Option, refl, ◌∙◌, inl, inr}
+use Rattle.std.proofs.Common.{◌≡◌, ℕ, Bool, true, false, cond, ◌&&◌, eqb, ◌⊎◌, Some, Option, refl, ◌∙◌, inl, inr}
 use Rattle.std.specs.Option.{option_map}
 use Rattle.std.proofs.lemmas.Bool.{eq-eqb, ne_eqb, cases_eq}
 use Rattle.store.specs.Views.{View}
@@ -8,7 +8,6 @@ use Rattle.linked.specs.declared.row.Row.{Row}
 use Rattle.linked.specs.declared.row.Siblings.TheVariants.{Children, Attributes}
 use Rattle.linked.specs.Rows.{row, row_of, with_link}
 use Rattle.linked.specs.Tables.{Lookup, changed, led}
-use Rattle.linked.proofs.Finding.{none_stays, none_led}
 
 -- by the tests on its identifier: a change by f where b, then by g where c
 abbrev twice : Bool → Bool → (Row → Row) → (Row → Row) → Option Row → Option Row

@@ -1,5 +1,5 @@
 -- A new store stands for nothing.
-use Rattle.std.proofs.Common.{◌≡◌, ℕ, ◌<◌, List, length, get_or, Some, None, sym, refl, ap, ◌∙◌, arith}
+use Rattle.std.proofs.Common.{◌≡◌, ℕ, ◌<◌, List, length, get_or, sym, refl, ◌∙◌, arith}
 use Rattle.document.specs.Tree.{nil}
 use Rattle.ordered.specs.declared.entries.RowOf.{RowOf}
 use Rattle.linked.specs.declared.row.Row.{Row}

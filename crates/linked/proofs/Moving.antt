@@ -1,9 +1,9 @@
 -- An entry more and an entry fewer: where each entry stood before.
-use Rattle.std.proofs.Common.{◌≡◌, ℕ, ◌+◌, ◌-◌, ◌<◌, ◌≤◌, Bool, true, false, cond, eqb, ltb, ◌≢◌, ◌⊎◌, List, length, get_or, set, Some, None, Option, sym, refl, ap, ◌∙◌, subst, inl, inr, arith, length-set, get_or-set_other, get_or-set_same}
+use Rattle.std.proofs.Common.{◌≡◌, ℕ, ◌+◌, ◌-◌, ◌<◌, ◌≤◌, Bool, true, false, cond, eqb, ltb, ◌≢◌, ◌⊎◌, List, length, get_or, set, Some, None, sym, refl, ap, ◌∙◌, subst, inl, inr, arith, length-set, get_or-set_other, get_or-set_same}
 use Rattle.std.proofs.lemmas.Bool.{eq-eqb, ne_eqb, lt-ltb, le-ltb, eqb-true, eqb-false, cases_eq, cases_lt, cond-true, cond-false}
 use Rattle.ordered.specs.declared.entries.RowOf.{RowOf}
 use Rattle.ordered.specs.Table.{Placed, Closed, Ascending}
-use Rattle.ordered.specs.Entries.{by_identifier, PlacedAt}
+use Rattle.ordered.specs.Entries.{by_identifier}
 use Rattle.linked.specs.declared.row.Row.{Row}
 use Rattle.linked.specs.Tables.{Lookup, Shows, with_row, without_row}
 

@@ -1,5 +1,5 @@
 -- A row linked in stands for a node put in.
-use Rattle.std.proofs.Common.{◌≡◌, ℕ, ◌+◌, ◌<◌, ◌≤◌, Bool, true, false, cond, not, ◌&&◌, ◌||◌, eqb, ltb, ◌⊎◌, List, [], ◌∷◌, Some, None, Ok, Option, sym, refl, ap, ◌∙◌, subst, inl, inr, arith}
+use Rattle.std.proofs.Common.{◌≡◌, ℕ, ◌<◌, ◌≤◌, Bool, true, false, cond, ◌&&◌, ◌||◌, eqb, ◌⊎◌, List, [], ◌∷◌, Some, None, Ok, Option, sym, refl, ap, ◌∙◌, subst, inl, inr, arith}
 use Rattle.std.specs.Option.{option_map}
 use Rattle.std.proofs.lemmas.Bool.{eq-eqb, ne_eqb, eqb-true, eqb-false, cases_eq, cases_lt, lt-ltb, le-ltb, cond-true, cond-false, and_parts, false≢true}
 use Rattle.records.specs.declared.nodes.Kind.{Kind}
@@ -10,22 +10,21 @@ use Rattle.document.specs.Listing.{label}
 use Rattle.document.specs.Table.{is_attribute}
 use Rattle.store.specs.Kept.{Kept}
 use Rattle.store.specs.Listed.{read_at}
-use Rattle.store.specs.Views.{View, view, first_of}
-use Rattle.store.specs.Writes.{act, unchanged}
+use Rattle.store.specs.Views.{View, view}
 use Rattle.store.specs.Says.{put_says, put_leaves, is_element, fits_root, fits_below}
-use Rattle.store.specs.Links.{label_before, label_from, previous_label, next_label, attribute_before, attribute_from, previous_attribute, next_child, linked_first, linked_behind, linked_child, linked_attribute, new_child, new_attribute}
+use Rattle.store.specs.Links.{label_before, label_from, previous_label, next_label, attribute_before, attribute_from, previous_attribute, next_child, linked_child, linked_attribute, new_attribute}
 use Rattle.store.proofs.Along.{seen, absent}
 use Rattle.store.proofs.Shapes.{no_zero}
 use Rattle.store.proofs.Puts as puts
 use Rattle.store.proofs.Linking.{put_links_child, put_links_attribute}
 use Rattle.store.proofs.Standing.{row_of_attributes}
 use Rattle.store.proofs.Telling.{SeenLabels}
-use Rattle.linked.specs.declared.row.Link.TheVariants.{Left, FirstChild, NextSibling, FirstAttribute, NextAttribute}
+use Rattle.linked.specs.declared.row.Link.TheVariants.{Left}
 use Rattle.linked.specs.declared.row.Row.{Row}
 use Rattle.linked.specs.declared.row.Siblings.{Siblings}
 use Rattle.linked.specs.declared.row.Siblings.TheVariants.{Children, Attributes}
 use Rattle.linked.specs.Rows.{row, row_of, with_link, row_among, siblings_of}
-use Rattle.linked.specs.Tables.{Lookup, changed, with_row, led, linked_in}
+use Rattle.linked.specs.Tables.{changed, with_row, led, linked_in}
 use Rattle.linked.specs.Stores.{rows_of}
 use Rattle.linked.specs.Places.{neighbours}
 use Rattle.linked.proofs.Finding.{none_stays, none_led}

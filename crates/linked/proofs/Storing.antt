@@ -1,11 +1,10 @@
 -- What the memory stands for after a write.
 use Rattle.std.proofs.Common.{◌≡◌, ℕ, ◌+◌, ◌-◌, ◌<◌, ◌≤◌, Bool, true, false, cond, eqb, ◌⊎◌, List, [], length, Some, None, Ok, vec_items, vec_len, Option, sym, refl, ap, ◌∙◌, subst, subst₂, inl, inr, arith, length-append, length-drop, length-take}
-use mathlib.Core.Logic.{∥∥₁_elim, ∥∥₁_map}
-use native.Mathlib.Bridge.{le_prop}
+use mathlib.Core.Logic.{∥∥₁_map}
 use Rattle.std.specs.Vec.{with_items}
 use Rattle.std.specs.Option.{option_map}
 use Rattle.std.proofs.lemmas.List.{with_items_is}
-use Rattle.std.proofs.lemmas.Bool.{eq-eqb, ne_eqb, eqb-true, eqb-false, cond-true, cond-false, cases_lt, cases_eq}
+use Rattle.std.proofs.lemmas.Bool.{eq-eqb, ne_eqb, eqb-false, cond-true, cond-false, cases_lt, cases_eq}
 use Rattle.records.specs.declared.nodes.Node.{Node}
 use Rattle.document.specs.Tree.{Label, Forest, nil, node, size}
 use Rattle.document.specs.Listing.{label, listing}

@@ -1,5 +1,5 @@
 -- A row linked out stands for a node taken out.
-use Rattle.std.proofs.Common.{◌≡◌, ℕ, ◌+◌, ◌-◌, ◌<◌, ◌≤◌, Bool, true, false, cond, ◌&&◌, eqb, ◌⊎◌, Some, None, Ok, Option, sym, refl, ap, ◌∙◌, subst, inl, inr, arith}
+use Rattle.std.proofs.Common.{◌≡◌, ℕ, true, false, eqb, ◌⊎◌, Some, None, Ok, Option, sym, refl, ap, ◌∙◌, inl, inr}
 use Rattle.std.specs.Option.{option_map}
 use Rattle.std.proofs.lemmas.Bool.{eq-eqb, ne_eqb, cases_eq, cond-true, cond-false, true≢false}
 use Rattle.records.specs.declared.nodes.Kind.{Kind}
@@ -17,7 +17,7 @@ use Rattle.linked.specs.declared.row.Link.TheVariants.{Left}
 use Rattle.linked.specs.declared.row.Siblings.{Siblings}
 use Rattle.linked.specs.declared.row.Siblings.TheVariants.{Children, Attributes}
 use Rattle.linked.specs.Rows.{row_of, with_link, next_among, siblings_of}
-use Rattle.linked.specs.Tables.{Lookup, changed, without_row, led, linked_out}
+use Rattle.linked.specs.Tables.{Lookup, changed, led, linked_out}
 use Rattle.linked.specs.Stores.{rows_of}
 use Rattle.linked.specs.Places.{stands_behind}
 use Rattle.linked.proofs.Finding.{none_stays, none_led}

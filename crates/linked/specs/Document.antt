@@ -1,5 +1,5 @@
 -- The document that a linked store holds.
-use Rattle.std.specs.Prelude.{List, vec_items}
+use Rattle.std.specs.Prelude.{vec_items}
 use Rattle.document.specs.Tree.{Forest}
 use Rattle.store.specs.Meaning.{meant}
 use Rattle.linked.specs.declared.store.LinkedStore.{LinkedStore}

@@ -1,16 +1,16 @@
-use Rattle.std.proofs.Common.{◌≡◌, ℕ, ◌-◌, ◌≤◌, Some, None, sym, ◌∙◌, arith}
+use Rattle.std.proofs.Common.{◌-◌, arith}
 use Rattle.linked.proofs.Finding.{no_entry}
 use Rattle.linked.proofs.Moving.{left, ascending_before}
 use Rattle.linked.proofs.table.leave.Goals as goal
 
-pub returns-in-Some-remove-row : goal.returns-in-Some-remove-row
-returns-in-Some-remove-row c rows look w s e =
-    let r = c.in-Some-remove-row.ensures in
+pub returns-in-Some-remove_row : goal.returns-in-Some-remove_row
+returns-in-Some-remove_row c rows look w s e =
+    let r = c.in-Some-remove_row.ensures in
     let p = c.in-Some.ensures.place s.within s.ascending in
-    left c.args.index.now c.remove-row.new.table rows c.args.used c.in-Some.at c.args.id c.in-Some-remove-row.entry look s p.1 p.0 r.moves.3 r.moves.2
-    (ascending_before c.remove-row.new.table (c.args.used - 1) (c.args.used - 1) c.in-Some-remove-row.entry (omega arith) (r.order s.ascending))
+    left c.args.index.now c.remove_row.new.table rows c.args.used c.in-Some.at c.args.id c.in-Some-remove_row.entry look s p.1 p.0 r.moves.3 r.moves.2
+    (ascending_before c.remove_row.new.table (c.args.used - 1) (c.args.used - 1) c.in-Some-remove_row.entry (omega arith) (r.order s.ascending))
 
-pub returns-in-default : goal.returns-in-default
-returns-in-default c rows look w s e =
+pub returns-in_default : goal.returns-in_default
+returns-in_default c rows look w s e =
     let k = s.every c.args.id w e in
-    absurd (c.in-default.ensures.place s.within s.ascending k.0 no_entry k.1 (k.2 no_entry))
+    absurd (c.in_default.ensures.place s.within s.ascending k.0 no_entry k.1 (k.2 no_entry))

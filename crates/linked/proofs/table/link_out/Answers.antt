@@ -1,6 +1,6 @@
-use Rattle.std.proofs.Common.{ℕ, ◌-◌, sym, subst}
+use Rattle.std.proofs.Common.{ℕ, ◌-◌, subst}
 use Rattle.linked.specs.declared.row.Link.TheVariants.{Left}
-use Rattle.linked.specs.Rows.{with_link, next_among}
+use Rattle.linked.specs.Rows.{with_link}
 use Rattle.linked.specs.Tables.{Lookup, Shows, changed, led, without_row}
 use Rattle.linked.proofs.Finding.{some_stays, some_led}
 use Rattle.linked.proofs.table.link_out.Goals as goal

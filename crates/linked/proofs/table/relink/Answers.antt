@@ -1,4 +1,4 @@
-use Rattle.std.proofs.Common.{List, set, sym, subst}
+use Rattle.std.proofs.Common.{set, sym, subst}
 use Rattle.linked.specs.declared.row.Row.{Row}
 use Rattle.linked.specs.Rows.{with_link}
 use Rattle.linked.specs.Tables.{Shows, changed}
@@ -11,5 +11,5 @@ returns-in-Some c look s =
     (sym c.with_link.ensures)
     (row_changed c.args.index.now c.args.rows.now c.args.used look s c.args.id c.in-Some.at (c.in-Some.ensures.1 look s) (with_link c.args.link c.args.to) _)
 
-pub returns-in-default : goal.returns-in-default
-returns-in-default c look s = none_changed c.args.index.now c.args.rows.now c.args.used look s c.args.id (with_link c.args.link c.args.to) (c.in-default.ensures look s)
+pub returns-in_default : goal.returns-in_default
+returns-in_default c look s = none_changed c.args.index.now c.args.rows.now c.args.used look s c.args.id (with_link c.args.link c.args.to) (c.in_default.ensures look s)

@@ -1,4 +1,3 @@
-use Rattle.std.proofs.Common.{sym, ◌∙◌}
 use Rattle.store.specs.Views.{view}
 use Rattle.linked.specs.Document.{document}
 use Rattle.linked.proofs.Holding.{looked_up, row_there, no_row}

@@ -10,14 +10,14 @@ use Rattle.linked.proofs.store.LinkedStore.with_room.Goals as goal
 free : (ix : List RowOf) (rows : List Row) (n : ℕ) → n ≡ length ix → n ≡ length rows → ((k : ℕ) (e : RowOf) → k < n → (get_or ix k e).row ≡ k) → Stores ix rows 0 0 nil
 free ix rows n a b f = all_free ix rows (sym b ∙ a) (λ k e h. f k e (omega arith))
 
-pub invariant-of-result : goal.invariant-of-result
-invariant-of-result c =
-    let ix = c.in-ok-index.ensures in
-    let rs = c.in-ok-rows.ensures in
-    (∣ (nil, free _ _ c.args.room (sym ix.0 ∙ c.in-ok-index.index.ok.0) (sym rs ∙ c.in-ok-rows.rows.ok.0) ix.1) ∣₁, tt)
+pub invariant_of-result : goal.invariant_of-result
+invariant_of-result c =
+    let ix = c.in_ok-index.ensures in
+    let rs = c.in_ok-rows.ensures in
+    record { stands = ∣ (nil, free _ _ c.args.room (sym ix.0 ∙ c.in_ok-index.index.ok.0) (sym rs ∙ c.in_ok-rows.rows.ok.0) ix.1) ∣₁ }
 
 pub returns : goal.returns
 returns c =
-    let ix = c.in-ok-index.ensures in
-    let rs = c.in-ok-rows.ensures in
-    (stands_for _ _ 0 0 _ nil ∣ free _ _ c.args.room (sym ix.0 ∙ c.in-ok-index.index.ok.0) (sym rs ∙ c.in-ok-rows.rows.ok.0) ix.1 ∣₁, ix.0)
+    let ix = c.in_ok-index.ensures in
+    let rs = c.in_ok-rows.ensures in
+    (stands_for _ _ 0 0 _ nil ∣ free _ _ c.args.room (sym ix.0 ∙ c.in_ok-index.index.ok.0) (sym rs ∙ c.in_ok-rows.rows.ok.0) ix.1 ∣₁, ix.0)
