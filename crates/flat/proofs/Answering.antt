@@ -1,24 +1,22 @@
 -- What a flat store answers is what its document says.
-use Rattle.std.proofs.Common.{◌≡◌, ℕ, zero, suc, ◌+◌, ◌-◌, ◌<◌, ◌≤◌, Bool, true, false, cond, ◌⊎◌, List, [], ◌∷◌, length, get_or, take, drop, Some, None, Ok, Err, Option, Result, Less, Equal, Greater, sym, refl, ap, ◌∙◌, subst, inl, inr, arith}
+use Rattle.std.proofs.Common.{◌≡◌, ℕ, zero, suc, ◌+◌, ◌<◌, ◌≤◌, Bool, true, false, ◌⊎◌, List, length, take, drop, Some, None, Ok, Option, Ordering, Less, Equal, Greater, sym, refl, ap, ◌∙◌, inl, inr, arith}
 use mathlib.Core.Logic.{∥∥₁_elim}
 use mathlib.Core.HLevel.{⊥_prop}
-use Rattle.std.specs.Cmp.{nat_cmp_total}
-use Rattle.std.specs.Ordering.{is_lt, nat_cmp}
+use Rattle.std.specs.Cmp.{ranks, tied_itself}
+use Rattle.std.specs.Ordering.{is_lt, nat_cmp, ordering_then, MatchOrdering}
 use Rattle.std.proofs.lemmas.List.{get_or_default}
 use Rattle.std.proofs.lemmas.Bool.{cases_eq, both_ways}
 use Rattle.records.specs.declared.nodes.Node.{Node}
-use Rattle.document.specs.Tree.{Forest, nil, node, size}
-use Rattle.document.specs.Listing.{listing, rows}
+use Rattle.document.specs.Tree.{Forest, size}
 use Rattle.document.specs.Table.{is_attribute}
-use Rattle.faults.specs.declared.StoreFault.{StoreFault}
-use Rattle.faults.specs.declared.StoreFault.TheVariants.{Absent}
 use Rattle.ordered.specs.declared.entries.RowOf.{RowOf}
 use Rattle.ordered.specs.Table.{Ascending}
 use Rattle.ordered.specs.Entries.{by_identifier, LookedUp}
+use Rattle.ordered.proofs.Orders.{identifiers}
 use Rattle.store.specs.Views.{View, view, first_of, asked, record_says, first_child_says, next_sibling_says, first_attribute_says, next_attribute_says, place_says}
-use Rattle.store.specs.Listed.{child_row, attribute_row, first_where, last_where, Shown}
+use Rattle.store.specs.Listed.{child_row, attribute_row, first_where, last_where}
 use Rattle.flat.specs.declared.rows.FlatRow.{FlatRow}
-use Rattle.flat.specs.Means.{no_node, no_entry, at, up, entry, nodes, means, Laid, Plain, Indexed, Stored}
+use Rattle.flat.specs.Means.{no_entry, at, up, entry, nodes, means, Plain, Stored}
 use Rattle.flat.specs.Walks.{child_at, attribute_at, Behind, Unknown, Sought}
 use Rattle.store.proofs.Neighbours.{size_and_root_are_listed}
 use Rattle.flat.proofs.Tables.{first_from, none_from}
@@ -28,12 +26,15 @@ use Rattle.flat.proofs.Asking.{first_attribute, next_attribute, first_child, nex
 
 -- ---- the index
 
-rank_itself : (x : ℕ) → is_lt (nat_cmp x x) ≡ false
-rank_itself x = rw (← (nat_cmp_total.says x x Equal refl))
+-- a greater identifier decides
+not_less : (x y : ℕ) (r s : Ordering) → MatchOrdering r (x < y) (x ≡ y) (y < x) → y < x → is_lt (ordering_then r s) ≡ false
+not_less x y Less s h l = absurd (omega arith)
+not_less x y Equal s h l = absurd (omega arith)
+not_less x y Greater s h l = refl
 
 not_before : (a b : RowOf) → (b.id < a.id) ⊎ (a ≡ b) → is_lt (by_identifier a b) ≡ false
-not_before a b (inl l) = rw (← (nat_cmp_total.says a.id b.id Greater l))
-not_before a b (inr e) = rw (e, ← (nat_cmp_total.says b.id b.id Equal refl)) (rank_itself b.row)
+not_before a b (inl l) = not_less a.id b.id (nat_cmp a.id b.id) (nat_cmp a.row b.row) (ranks a.id b.id) l
+not_before a b (inr e) = ap (λ x. is_lt (by_identifier x b)) e ∙ ap is_lt (tied_itself identifiers b)
 
 pub ascending_from : (X : List RowOf) (n : ℕ) → n ≤ length X → ((i j : ℕ) → i < j → j < n → (entry X i).id < (entry X j).id) → Ascending by_identifier n X
 ascending_from X n h up i j d l g =

@@ -1,15 +1,15 @@
 -- What is read off the rows around a node's row are the neighbours that the listing shows.
-use Rattle.std.proofs.Common.{◌≡◌, ℕ, zero, suc, ◌+◌, ◌-◌, ◌<◌, ◌≤◌, Bool, true, false, cond, not, ◌&&◌, eqb, ltb, leb, ◌⊎◌, List, length, take, drop, Some, None, sym, refl, ap, ◌∙◌, subst, inl, inr, arith}
-use Rattle.std.proofs.lemmas.Bool.{cases_lt, cases_eq, both_ways, eq-eqb, ne_eqb, eqb-true, lt-ltb, ltb-true, ltb-false, le-ltb, and_left, and_parts, and_from}
+use Rattle.std.proofs.Common.{◌≡◌, ℕ, zero, suc, ◌+◌, ◌-◌, ◌<◌, ◌≤◌, Bool, true, false, cond, not, ◌&&◌, eqb, ltb, ◌⊎◌, List, length, take, drop, None, sym, refl, ap, ◌∙◌, subst, inl, inr, arith}
+use Rattle.std.proofs.lemmas.Bool.{cases_lt, cases_eq, both_ways, eq-eqb, ne_eqb, eqb-true, lt-ltb, le-ltb, and_left, and_parts, and_from}
 use Rattle.records.specs.declared.nodes.Node.{Node}
 use Rattle.document.specs.Table.{is_attribute}
 use Rattle.store.specs.Listed.{child_row, attribute_row, first_where, last_where}
 use Rattle.flat.specs.declared.rows.FlatRow.{FlatRow}
-use Rattle.flat.specs.Means.{no_node, at, up, nodes, Laid, Plain}
+use Rattle.flat.specs.Means.{at, up, nodes, Laid, Plain}
 use Rattle.flat.specs.Walks.{child_at, attribute_at, Behind, Walked}
 use Rattle.flat.proofs.Tables.{nth, first_from, none_from, first_beyond, last_step, last_skip}
 use Rattle.flat.proofs.Standing.{nodes_long, node_at}
-use Rattle.flat.proofs.Families.{up_before, up_is, parent_above, outside_child, inside_other, within_parent, sibling_up, attribute_run, attribute_bare}
+use Rattle.flat.proofs.Families.{up_before, parent_above, outside_child, inside_other, within_parent, sibling_up, attribute_run, attribute_bare}
 
 and_right : (a b : Bool) → b ≡ false → (a && b) ≡ false
 and_right true b e = e

@@ -1,5 +1,5 @@
 -- A store without rows.
-use Rattle.std.proofs.Common.{◌≡◌, ℕ, List, refl, arith}
+use Rattle.std.proofs.Common.{◌≡◌, List, refl, arith}
 use Rattle.document.specs.Tree.{nil}
 use Rattle.document.specs.Listing.{listing}
 use Rattle.document.specs.Table.{document_of}

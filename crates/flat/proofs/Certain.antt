@@ -1,7 +1,6 @@
 -- What a store holds is a fact without choices: it can be had from its truncation.
-use Rattle.std.proofs.Common.{◌≡◌, ℕ, Bool, true, false, ◌&&◌, ltb, List, [], ◌∷◌, sym, refl, ap, ◌∙◌, arith}
+use Rattle.std.proofs.Common.{◌≡◌, ℕ, Bool, true, false, ◌&&◌, ltb, List, [], ◌∷◌, refl, ap, arith}
 use mathlib.Core.Logic.{∥∥₁_elim}
-use mathlib.Core.HLevel.{Π_prop}
 use base.Stored.{coded_list, coded_bool}
 use denote.Struct.Props.{props, ≡_prop}
 use Rattle.std.proofs.lemmas.Bool.{ltb-true, lt-ltb, and_parts, and_from}
@@ -9,13 +8,13 @@ use Rattle.records.specs.Formed.{fields_suit_kind}
 use Rattle.records.specs.declared.nodes.Kind.{Kind}
 use Rattle.records.specs.declared.nodes.Kind.TheVariants.{Element, Attribute, Text}
 use Rattle.records.specs.contracts.nodes.Node.{the_row}
-use Rattle.document.specs.Tree.{Label, Forest, nil, node, Above, Formed, Attributes, Holds}
+use Rattle.document.specs.Tree.{Label, Forest, nil, node, Above, Attributes, Holds}
 use Rattle.document.specs.Table.{is_attribute}
 use Rattle.ordered.specs.declared.entries.RowOf.{RowOf}
-use Rattle.store.specs.Kept.{Shaped, AtMostOne, Kept}
+use Rattle.store.specs.Kept.{Shaped, AtMostOne}
 use Rattle.store.specs.Says.{is_element}
 use Rattle.flat.specs.declared.rows.FlatRow.{FlatRow}
-use Rattle.flat.specs.Means.{means, Laid, Indexed, Stored}
+use Rattle.flat.specs.Means.{means, Stored}
 
 -- ---- what a store may hold, as a test
 

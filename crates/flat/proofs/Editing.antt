@@ -1,20 +1,17 @@
 -- Another name or value for the node in one row, and the tests before it.
-use Rattle.std.proofs.Common.{◌≡◌, ℕ, ◌<◌, ◌≤◌, Bool, true, false, cond, eqb, List, length, set, Some, Ok, Err, Result, sym, refl, ap, ◌∙◌, subst, arith}
+use Rattle.std.proofs.Common.{◌≡◌, ℕ, ◌<◌, ◌≤◌, Bool, true, false, cond, eqb, List, length, set, Ok, Err, sym, refl, ap, ◌∙◌, subst}
 use Rattle.std.proofs.lemmas.Bool.{eq-eqb, ne_eqb}
-use Rattle.records.specs.declared.nodes.Kind.{Kind}
 use Rattle.records.specs.declared.nodes.Node.{Node}
-use Rattle.document.specs.Tree.{Forest}
 use Rattle.faults.specs.declared.StoreFault.{StoreFault}
-use Rattle.faults.specs.declared.StoreFault.TheVariants.{Misformed, Absent, Unsuited}
+use Rattle.faults.specs.declared.StoreFault.TheVariants.{Misformed, Unsuited}
 use Rattle.ordered.specs.declared.entries.RowOf.{RowOf}
-use Rattle.store.specs.Views.{View, view}
 use Rattle.store.specs.Says.{Answer, after, is_element, is_text, rename_of, rename_says, rename_leaves, set_value_of, set_value_says, set_value_leaves}
 use Rattle.store.specs.Listed.{renamed_row, revalued_row}
 use Rattle.store.proofs.Edits.{rename_changes_one, set_value_changes_one, rename_keeps, set_value_keeps}
 use Rattle.flat.specs.declared.rows.FlatRow.{FlatRow}
-use Rattle.flat.specs.Means.{at, means, nodes, Stored}
+use Rattle.flat.specs.Means.{at, means, Stored}
 use Rattle.flat.specs.Judging.{Judged}
-use Rattle.flat.proofs.Standing.{node_at, Seen, sight}
+use Rattle.flat.proofs.Standing.{node_at, sight}
 use Rattle.flat.proofs.Keeping.{Edits, edited_row, edited_stored, edited_means}
 
 -- a refusal leaves the document

@@ -1,8 +1,8 @@
 -- The index once a row has come.
-use Rattle.std.proofs.Common.{◌≡◌, ℕ, ◌+◌, ◌-◌, ◌<◌, ◌≤◌, Bool, true, false, cond, leb, ◌⊎◌, List, length, get_or, Some, None, Option, Less, Greater, sym, refl, ap, ◌∙◌, subst, inl, inr, arith}
+use Rattle.std.proofs.Common.{◌≡◌, ℕ, ◌+◌, ◌-◌, ◌<◌, ◌≤◌, true, false, leb, ◌⊎◌, List, length, Some, None, Option, Ordering, Less, Equal, Greater, sym, ap, ◌∙◌, inl, inr, arith}
 use mathlib.Core.Logic.{∥∥₁_map}
-use Rattle.std.specs.Cmp.{nat_cmp_total}
-use Rattle.std.specs.Ordering.{is_lt, nat_cmp}
+use Rattle.std.specs.Cmp.{ranks}
+use Rattle.std.specs.Ordering.{is_lt, nat_cmp, ordering_then, MatchOrdering}
 use Rattle.std.proofs.lemmas.Bool.{cases_lt, cases_order, true≢false, false≢true}
 use Rattle.std.proofs.lemmas.Bool.Decides.{nat_tests}
 use Rattle.records.specs.declared.nodes.Node.{Node}
@@ -14,19 +14,22 @@ use Rattle.flat.specs.Means.{no_entry, at, entry, Indexed}
 use Rattle.flat.specs.Shifts.{raised, Changed, Enlisted}
 use Rattle.flat.proofs.Answering.{ascending_from}
 
+-- what an order by identifier and then by row says of the identifiers
+later : (x y : ℕ) (r s : Ordering) → MatchOrdering r (x < y) (x ≡ y) (y < x) → is_lt (ordering_then r s) ≡ true → x ≤ y
+later x y Less s h e = omega arith
+later x y Equal s h e = omega arith
+later x y Greater s h e = absurd (false≢true e)
+
+sooner : (x y : ℕ) (r s : Ordering) → MatchOrdering r (x < y) (x ≡ y) (y < x) → is_lt (ordering_then r s) ≡ false → y ≤ x
+sooner x y Less s h e = absurd (true≢false e)
+sooner x y Equal s h e = omega arith
+sooner x y Greater s h e = omega arith
+
 no_later : (a b : RowOf) → is_lt (by_identifier a b) ≡ true → a.id ≤ b.id
-no_later a b h = go (cases_lt b.id a.id)
-  where
-    go : (b.id < a.id) ⊎ (a.id ≤ b.id) → a.id ≤ b.id
-    go (inl l) = absurd (false≢true (rw (← (nat_cmp_total.says a.id b.id Greater l)) at h))
-    go (inr l) = l
+no_later a b h = later a.id b.id (nat_cmp a.id b.id) (nat_cmp a.row b.row) (ranks a.id b.id) h
 
 no_sooner : (a b : RowOf) → is_lt (by_identifier a b) ≡ false → b.id ≤ a.id
-no_sooner a b h = go (cases_lt a.id b.id)
-  where
-    go : (a.id < b.id) ⊎ (b.id ≤ a.id) → b.id ≤ a.id
-    go (inl l) = absurd (true≢false (rw (← (nat_cmp_total.says a.id b.id Less l)) at h))
-    go (inr l) = l
+no_sooner a b h = sooner a.id b.id (nat_cmp a.id b.id) (nat_cmp a.row b.row) (ranks a.id b.id) h
 
 -- where the entry of an old row leads
 record Leads (i : ℕ) (e f : RowOf) : Type 0 where

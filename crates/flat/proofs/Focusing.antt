@@ -1,16 +1,15 @@
 -- A node of a document, with the rows before it, its own, and those behind it.
-use Rattle.std.proofs.Common.{◌≡◌, ℕ, zero, suc, ◌+◌, ◌<◌, ◌≤◌, Bool, true, false, cond, eqb, ltb, leb, ◌⊎◌, List, [], ◌∷◌, ◌++◌, length, Some, None, Option, sym, refl, ap, ◌∙◌, subst, inl, inr, append_assoc, arith, length-append}
+use Rattle.std.proofs.Common.{◌≡◌, ℕ, zero, suc, ◌+◌, ◌<◌, ◌≤◌, false, eqb, ◌⊎◌, List, [], ◌∷◌, ◌++◌, length, Some, sym, refl, ap, ◌∙◌, subst, inl, inr, append_assoc, arith, length-append}
 use Rattle.std.proofs.lemmas.List.{get_or-append-add}
 use Rattle.std.proofs.lemmas.Bool.{eqb-true, both_ways}
-use Rattle.records.specs.declared.nodes.Kind.TheVariants.{Attribute}
 use Rattle.records.specs.declared.nodes.Node.{Node}
-use Rattle.document.specs.Tree.{Label, Forest, nil, node, one, count_labels, count, Above, Attributes}
+use Rattle.document.specs.Tree.{Label, Forest, nil, node, one, count, Above, Attributes}
 use Rattle.document.specs.Listing.{row, attribute_rows, rows}
 use Rattle.document.specs.Table.{is_attribute}
 use Rattle.document.proofs.Counting.{one_refl}
 use Rattle.store.specs.Kept.{Shaped}
 use Rattle.store.specs.Views.{View, view_in}
-use Rattle.store.specs.Writes.{act, unchanged}
+use Rattle.store.specs.Writes.{unchanged}
 use Rattle.store.specs.Listed.{read_at, times}
 use Rattle.store.proofs.Along.{Steps, along}
 use Rattle.store.proofs.Planting.{read_none}

@@ -1,7 +1,7 @@
 -- A store that is changed holds what its rows list.
-use Rattle.std.proofs.Common.{◌≡◌, ℕ, ◌+◌, ◌-◌, ◌<◌, ◌≤◌, Bool, true, false, cond, eqb, ◌≢◌, ◌⊎◌, List, map, length, get_or, take, set, sym, refl, ap, ◌∙◌, subst, inl, inr, arith, length-set}
+use Rattle.std.proofs.Common.{◌≡◌, ℕ, ◌<◌, ◌≤◌, ◌⊎◌, List, map, length, set, sym, refl, ap, ◌∙◌, subst, inl, inr, arith, length-set}
 use Rattle.std.proofs.lemmas.List.{ext_get_or, get_or-map, get_or-set_same, get_or-set_other, length-map}
-use Rattle.std.proofs.lemmas.Bool.{cases_eq, eq-eqb, ne_eqb}
+use Rattle.std.proofs.lemmas.Bool.{cases_eq}
 use Rattle.records.specs.declared.nodes.Node.{Node}
 use Rattle.document.specs.Tree.{Forest}
 use Rattle.document.specs.Listing.{listing}
@@ -10,7 +10,7 @@ use Rattle.ordered.specs.declared.entries.RowOf.{RowOf}
 use Rattle.store.specs.Kept.{Kept}
 use Rattle.store.specs.Says.{is_element}
 use Rattle.flat.specs.declared.rows.FlatRow.{FlatRow}
-use Rattle.flat.specs.Means.{no_node, no_row, at, up, entry, nodes, means, Laid, Indexed, Plain, Stored}
+use Rattle.flat.specs.Means.{no_node, no_row, at, up, entry, nodes, means, Laid, Indexed, Stored}
 use Rattle.flat.proofs.Regathering.{listing_gives_kept}
 use Rattle.flat.proofs.Tables.{nth}
 use Rattle.flat.proofs.Standing.{nodes_long, node_at, plain}

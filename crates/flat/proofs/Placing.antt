@@ -1,7 +1,7 @@
 -- The places that the walks over the rows find are those at which the listing takes a new row.
-use Rattle.std.proofs.Common.{◌≡◌, ℕ, zero, suc, ◌+◌, ◌-◌, ◌<◌, ◌≤◌, Bool, true, false, cond, not, ◌&&◌, eqb, ltb, leb, ◌⊎◌, List, [], ◌∷◌, ◌++◌, length, get_or, Some, None, Option, sym, refl, ap, ◌∙◌, subst, inl, inr, arith, length-append}
+use Rattle.std.proofs.Common.{◌≡◌, ℕ, zero, suc, ◌+◌, ◌-◌, ◌<◌, ◌≤◌, Bool, true, false, eqb, ltb, ◌⊎◌, List, [], ◌∷◌, ◌++◌, length, Some, None, Option, sym, refl, ap, ◌∙◌, inl, inr, arith, length-append}
 use Rattle.std.proofs.lemmas.List.{get_or-append-add, get_or_append_left}
-use Rattle.std.proofs.lemmas.Bool.{cases_lt, cases_eq, cases_order, both_ways, eq-eqb, ne_eqb, eqb-true, lt-ltb, le-ltb, and_parts, and_left}
+use Rattle.std.proofs.lemmas.Bool.{cases_lt, cases_order, both_ways, eq-eqb, ne_eqb, eqb-true, lt-ltb, le-ltb, and_left}
 use Rattle.std.proofs.lemmas.Bool.Decides.{nat_tests}
 use Rattle.records.specs.declared.nodes.Node.{Node}
 use Rattle.document.specs.Tree.{Label, Forest, nil, node, one, size_labels, size, count_labels, Above, Attributes}
@@ -11,9 +11,9 @@ use Rattle.document.proofs.Counting.{one_zero, length_attribute_rows, length_of_
 use Rattle.document.proofs.Gathering.{holder_no_attribute}
 use Rattle.ordered.specs.declared.entries.RowOf.{RowOf}
 use Rattle.store.specs.Kept.{Shaped}
-use Rattle.store.specs.Listed.{read_at, times, smaller_labels, past_smaller, past_attributes, past_all, place_behind, position, attribute_row}
+use Rattle.store.specs.Listed.{times, smaller_labels, past_smaller, past_attributes, past_all, place_behind, position, attribute_row}
 use Rattle.flat.specs.declared.rows.FlatRow.{FlatRow}
-use Rattle.flat.specs.Means.{no_node, at, up, nodes, means, Laid, Plain, Stored}
+use Rattle.flat.specs.Means.{no_node, at, up, nodes, means, Plain, Stored}
 use Rattle.flat.specs.Walks.{up_to, passes, Behind}
 use Rattle.store.proofs.Places.{times_labels}
 use Rattle.flat.proofs.Tables.{nth, no_times}

@@ -1,12 +1,12 @@
 -- The rows once a row has come to a place below another.
-use Rattle.std.proofs.Common.{◌≡◌, ℕ, zero, suc, ◌+◌, ◌-◌, ◌<◌, ◌≤◌, Bool, true, false, cond, ◌&&◌, ltb, leb, ◌⊎◌, List, sym, refl, ap, ◌∙◌, subst, inl, inr, arith}
+use Rattle.std.proofs.Common.{◌≡◌, ℕ, ◌+◌, ◌-◌, ◌<◌, ◌≤◌, true, false, leb, ◌⊎◌, List, sym, ap, ◌∙◌, inl, inr, arith}
 use Rattle.std.proofs.lemmas.Bool.{cases_lt, cases_order, lt-ltb, le-ltb}
 use Rattle.std.proofs.lemmas.Bool.Decides.{nat_tests}
 use Rattle.records.specs.declared.nodes.Node.{Node}
 use Rattle.store.specs.Says.{is_element}
 use Rattle.flat.specs.declared.rows.FlatRow.{FlatRow}
 use Rattle.flat.specs.Means.{at, up, Laid, Plain}
-use Rattle.flat.specs.Shifts.{grown, lifted, new_row, Planted, Gap}
+use Rattle.flat.specs.Shifts.{lifted, Planted, Gap}
 use Rattle.flat.proofs.Families.{up_before}
 
 leb-true : (a b : ℕ) → a ≤ b → leb a b ≡ true

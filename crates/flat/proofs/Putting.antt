@@ -1,26 +1,24 @@
 -- A put: the tests before it, and what the store holds after it.
-use Rattle.std.proofs.Common.{◌≡◌, ℕ, zero, suc, ◌+◌, ◌-◌, ◌<◌, ◌≤◌, Bool, true, false, cond, not, eqb, ◌⊎◌, List, ◌∷◌, ◌++◌, length, get_or, take, drop, Some, None, Ok, Err, Option, Result, sym, refl, ap, ◌∙◌, subst, inl, inr, arith, length-append, length-drop}
+use Rattle.std.proofs.Common.{◌≡◌, ℕ, suc, ◌+◌, ◌-◌, ◌<◌, ◌≤◌, true, false, eqb, ◌⊎◌, List, ◌∷◌, length, take, drop, None, Ok, Err, sym, refl, ap, ◌∙◌, inl, inr, arith, length-append, length-drop}
 use Rattle.std.proofs.lemmas.List.{get_or-take, get_or-drop, get_or_append_left, get_or-append_right, length-take-le}
-use Rattle.std.proofs.lemmas.Bool.{cases_lt, cases_order, eq-eqb, ne_eqb, eqb-true}
+use Rattle.std.proofs.lemmas.Bool.{cases_order}
 use Rattle.records.specs.Formed.{formed_node}
 use Rattle.records.specs.declared.nodes.Node.{Node}
-use Rattle.document.specs.Tree.{Forest, size}
 use Rattle.document.specs.Listing.{listing}
 use Rattle.faults.specs.declared.StoreFault.{StoreFault}
 use Rattle.faults.specs.declared.StoreFault.TheVariants.{Misformed, Known, Unsuited, Full}
 use Rattle.ordered.specs.declared.entries.RowOf.{RowOf}
-use Rattle.store.specs.Views.{View, view}
-use Rattle.store.specs.Says.{Answer, after, is_there, fits, put_says, put_leaves}
-use Rattle.store.specs.Listed.{inserted_at, put_place}
-use Rattle.store.proofs.Along.{unseen}
-use Rattle.store.proofs.Puts.{Accepted, accepted, put_adds_one, put_keeps}
+use Rattle.store.specs.Views.{view}
+use Rattle.store.specs.Says.{Answer, after, fits, put_says, put_leaves}
+use Rattle.store.specs.Listed.{inserted_at}
+use Rattle.store.proofs.Puts.{accepted, put_adds_one, put_keeps}
 use Rattle.flat.specs.declared.rows.FlatRow.{FlatRow}
 use Rattle.flat.specs.declared.rows.Spot.{Spot}
-use Rattle.flat.specs.Means.{no_node, at, up, nodes, means, Laid, Indexed, Plain, Stored}
-use Rattle.flat.specs.Shifts.{Planted, Gap, Enlisted}
+use Rattle.flat.specs.Means.{no_node, at, nodes, means, Laid, Plain, Stored}
+use Rattle.flat.specs.Shifts.{Planted, Enlisted}
 use Rattle.flat.specs.Spots.{Below, Suited, PutJudged}
 use Rattle.flat.proofs.Tables.{nth, times_at}
-use Rattle.flat.proofs.Standing.{nodes_long, node_at, Seen, plain, sight, listed_times}
+use Rattle.flat.proofs.Standing.{nodes_long, node_at, plain, sight, listed_times}
 use Rattle.flat.proofs.Answering.{size_is}
 use Rattle.flat.proofs.Keeping.{means_listed, stored_from, same_nodes}
 use Rattle.flat.proofs.Planting.{planted_laid, planted_node}

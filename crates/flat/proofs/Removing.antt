@@ -1,23 +1,20 @@
 -- A take: the test before it, and what the store holds after it.
-use Rattle.std.proofs.Common.{◌≡◌, ℕ, ◌+◌, ◌-◌, ◌<◌, ◌≤◌, Bool, true, false, cond, not, ◌&&◌, eqb, ltb, ◌⊎◌, List, ◌++◌, length, get_or, take, drop, Some, None, Ok, Err, Option, Result, sym, refl, ap, ◌∙◌, subst, inl, inr, arith, length-append, length-drop}
+use Rattle.std.proofs.Common.{◌≡◌, ℕ, ◌+◌, ◌-◌, ◌<◌, ◌≤◌, Bool, true, false, cond, not, ◌&&◌, eqb, ◌⊎◌, List, length, take, drop, Some, None, Ok, Err, Option, sym, refl, ap, ◌∙◌, inl, inr, arith, length-append, length-drop}
 use Rattle.std.proofs.lemmas.List.{get_or-take, get_or-drop, get_or_append_left, get_or-append_right, length-take-le}
 use Rattle.std.proofs.lemmas.Bool.{cases_lt, cases_eq, eq-eqb, ne_eqb, lt-ltb}
 use Rattle.records.specs.declared.nodes.Node.{Node}
-use Rattle.document.specs.Tree.{Forest, size}
 use Rattle.document.specs.Listing.{listing}
 use Rattle.document.specs.Table.{is_attribute}
-use Rattle.faults.specs.declared.StoreFault.{StoreFault}
 use Rattle.faults.specs.declared.StoreFault.TheVariants.{Unsuited}
 use Rattle.ordered.specs.declared.entries.RowOf.{RowOf}
 use Rattle.ordered.specs.Table.{Removed}
-use Rattle.store.specs.Views.{View, view}
 use Rattle.store.specs.Says.{is_bare, take_of, take_says, take_leaves}
 use Rattle.store.specs.Listed.{position, removed_at, child_row, attribute_row, first_where}
 use Rattle.store.proofs.Takes.{take_removes_one, take_keeps}
 use Rattle.flat.specs.declared.rows.FlatRow.{FlatRow}
 use Rattle.flat.specs.Means.{no_node, at, up, nodes, means, Laid, Indexed, Plain, Stored}
 use Rattle.flat.specs.Walks.{child_at, attribute_at, Behind}
-use Rattle.flat.specs.Shifts.{Taken, Lowered, Unlisted}
+use Rattle.flat.specs.Shifts.{Taken, Unlisted}
 use Rattle.flat.proofs.Tables.{nth, none_from}
 use Rattle.flat.proofs.Standing.{nodes_long, node_at, Seen, plain, sight}
 use Rattle.flat.proofs.Families.{up_before, outside_child}

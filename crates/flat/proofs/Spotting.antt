@@ -1,23 +1,21 @@
 -- Where a new node may stand: the tests, and the places that they lead to.
-use Rattle.std.proofs.Common.{◌≡◌, ℕ, zero, suc, ◌+◌, ◌-◌, ◌<◌, ◌≤◌, Bool, true, false, cond, not, ◌&&◌, ◌||◌, eqb, ◌⊎◌, List, length, Some, None, Option, sym, refl, ap, ◌∙◌, subst, inl, inr, arith}
+use Rattle.std.proofs.Common.{◌≡◌, ℕ, zero, suc, ◌+◌, ◌<◌, ◌≤◌, Bool, true, false, cond, not, ◌&&◌, eqb, List, length, Some, None, Option, sym, refl, ap, ◌∙◌, inl, inr, arith}
 use Rattle.std.proofs.lemmas.Bool.{eq-eqb, ne_eqb, eqb-true}
 use Rattle.records.specs.declared.nodes.Kind.{Kind}
 use Rattle.records.specs.declared.nodes.Kind.TheVariants.{Element, Attribute, Text}
 use Rattle.records.specs.declared.nodes.Node.{Node}
-use Rattle.document.specs.Tree.{size}
 use Rattle.document.specs.Table.{is_attribute}
 use Rattle.ordered.specs.declared.entries.RowOf.{RowOf}
-use Rattle.store.specs.Views.{View, view}
+use Rattle.store.specs.Views.{view}
 use Rattle.store.specs.Says.{is_element, is_element_there, is_child_of, fits}
 use Rattle.store.specs.Listed.{put_place}
 use Rattle.store.proofs.Along.{unseen}
 use Rattle.flat.specs.declared.rows.FlatRow.{FlatRow}
-use Rattle.flat.specs.declared.rows.Spot.{Spot}
-use Rattle.flat.specs.Means.{at, up, nodes, means, Laid, Plain, Stored}
+use Rattle.flat.specs.Means.{at, nodes, means, Laid, Plain, Stored}
 use Rattle.flat.specs.Walks.{Behind}
 use Rattle.flat.specs.Spots.{Suited}
-use Rattle.flat.proofs.Tables.{nth, times_at}
-use Rattle.flat.proofs.Standing.{nodes_long, node_at, Seen, plain, sight, listed_times}
+use Rattle.flat.proofs.Tables.{times_at}
+use Rattle.flat.proofs.Standing.{nodes_long, node_at, plain, sight, listed_times}
 use Rattle.flat.proofs.Families.{up_is}
 use Rattle.flat.proofs.Answering.{size_is}
 use Rattle.flat.proofs.Placing.{first_place, attribute_place, behind_place}

@@ -1,13 +1,11 @@
 -- What the rows of a store tell, as the listing of what it means.
-use Rattle.std.proofs.Common.{◌≡◌, ℕ, zero, suc, ◌+◌, ◌<◌, ◌≤◌, Bool, true, false, ◌⊎◌, List, [], ◌∷◌, map, length, get_or, take, Some, None, Ok, Option, Result, sym, refl, ap, ◌∙◌, subst, inl, inr, add-one, arith}
+use Rattle.std.proofs.Common.{◌≡◌, ℕ, zero, suc, ◌<◌, ◌≤◌, false, List, length, take, Some, None, Ok, Option, sym, refl, ap, ◌∙◌, subst, add-one, arith}
 use Rattle.std.proofs.lemmas.List.{get_or-map, get_or-take, length-map, length-take-le}
 use Rattle.records.specs.declared.nodes.Node.{Node}
 use Rattle.document.specs.Tree.{Forest, nil, node, size, count}
 use Rattle.document.specs.Listing.{listing, rows}
 use Rattle.document.specs.Table.{is_attribute}
 use Rattle.document.proofs.Counting.{length_of_rows}
-use Rattle.document.proofs.Gathering.{holder_no_attribute}
-use Rattle.faults.specs.declared.StoreFault.{StoreFault}
 use Rattle.ordered.specs.declared.entries.RowOf.{RowOf}
 use Rattle.store.specs.Kept.{Kept, AtMostOne}
 use Rattle.store.specs.Views.{View, view, asked}
@@ -18,7 +16,7 @@ use Rattle.store.proofs.Questions.{record_is_listed}
 use Rattle.store.proofs.Neighbours.{neighbours_are_listed}
 use Rattle.store.proofs.Shapes.{no_zero}
 use Rattle.flat.specs.declared.rows.FlatRow.{FlatRow}
-use Rattle.flat.specs.Means.{no_node, no_row, at, nodes, means, Of, Plain, Stored}
+use Rattle.flat.specs.Means.{no_node, no_row, at, nodes, means, Plain, Stored}
 use Rattle.flat.proofs.Tables.{nth, times_at, once_at, Found, found_at, no_times}
 use Rattle.flat.proofs.Chains.{Follows, chained}
 

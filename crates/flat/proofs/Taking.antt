@@ -1,12 +1,12 @@
 -- The rows once a row without others in its subtree is gone.
-use Rattle.std.proofs.Common.{◌≡◌, ℕ, zero, suc, ◌+◌, ◌-◌, ◌<◌, ◌≤◌, Bool, true, false, cond, ltb, ◌⊎◌, List, sym, refl, ap, ◌∙◌, subst, inl, inr, arith}
+use Rattle.std.proofs.Common.{◌≡◌, ℕ, ◌+◌, ◌-◌, ◌<◌, ◌≤◌, true, ◌⊎◌, List, sym, ap, ◌∙◌, inl, inr, arith}
 use Rattle.std.proofs.lemmas.Bool.{cases_lt, cases_order, lt-ltb, le-ltb}
 use Rattle.records.specs.declared.nodes.Node.{Node}
 use Rattle.store.specs.Says.{is_element}
 use Rattle.flat.specs.declared.rows.FlatRow.{FlatRow}
 use Rattle.flat.specs.Means.{at, up, Laid, Plain}
-use Rattle.flat.specs.Shifts.{shrunk, drawn, Taken}
-use Rattle.flat.proofs.Families.{up_before, outside_child}
+use Rattle.flat.specs.Shifts.{Taken}
+use Rattle.flat.proofs.Families.{up_before}
 
 module _ (R S : List FlatRow) (n i : ℕ) (l : i < n) (L : Laid R n) (P : Plain R n) (one : (at R i).size ≡ 1) (T : Taken R n i S) where
   -- no row is below the row i

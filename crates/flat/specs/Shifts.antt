@@ -1,5 +1,5 @@
 -- What a take and a put do to the rows and to the index, place by place.
-use Rattle.std.specs.Prelude.{◌≡◌, ℕ, ◌+◌, ◌-◌, ◌<◌, ◌≤◌, Bool, true, cond, ◌&&◌, List, length, Option, ◌≢◌, nat_le, nat_lt, slice_index_or}
+use Rattle.std.specs.Prelude.{◌≡◌, ℕ, ◌+◌, ◌-◌, ◌<◌, ◌≤◌, cond, ◌&&◌, List, length, Option, ◌≢◌, nat_le, nat_lt, slice_index_or}
 use Rattle.records.specs.declared.nodes.Node.{Node}
 use Rattle.ordered.specs.declared.entries.RowOf.{RowOf}
 use Rattle.ordered.specs.Table.{Inserted, InOrder, Removed}

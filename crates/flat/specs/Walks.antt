@@ -1,8 +1,7 @@
 -- What is read off the rows around a node's row.
-use Rattle.std.specs.Prelude.{◌≡◌, ℕ, ◌<◌, ◌≤◌, Bool, true, false, cond, ◌&&◌, List, take, Some, None, Ok, Err, Option, Result, nat_le, nat_lt}
+use Rattle.std.specs.Prelude.{◌≡◌, ℕ, ◌<◌, ◌≤◌, Bool, true, false, cond, ◌&&◌, List, take, Some, None, Err, Option, nat_le, nat_lt}
 use Rattle.records.specs.declared.nodes.Node.{Node}
 use Rattle.document.specs.Tree.{Forest}
-use Rattle.faults.specs.declared.StoreFault.{StoreFault}
 use Rattle.faults.specs.declared.StoreFault.TheVariants.{Absent}
 use Rattle.store.specs.Views.{view, record_says, first_child_says, next_sibling_says, first_attribute_says, next_attribute_says, place_says}
 use Rattle.store.specs.Listed.{child_row, attribute_row, last_where}

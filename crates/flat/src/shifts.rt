@@ -64,8 +64,8 @@ fn shrink(rows: &mut [FlatRow], gone: usize)
 
 // Moves the rows behind the row that goes down by one.
 fn close(rows: &mut [FlatRow], used: usize, gone: usize)
-    requires gone_lt_used { (gone < used) × (used ≤ length rows.old) }
-    requires by_index { (k : ℕ) → 0 < k → k < used → (0 < (at rows.old k).distance) × ((at rows.old k).distance ≤ k) }
+    requires within { (gone < used) × (used ≤ length rows.old) }
+    requires distances { (k : ℕ) → 0 < k → k < used → (0 < (at rows.old k).distance) × ((at rows.old k).distance ≤ k) }
     ensures { HasClosed rows.old used gone rows.new }
 {
     for k in gone + 1..used {
@@ -90,8 +90,8 @@ fn lower(index: &mut [RowOf], used: usize, gone: usize) -> usize
 
 // Takes the row that goes out of the first `used` rows.
 pub fn take_out(rows: &mut [FlatRow], used: usize, gone: usize)
-    requires gone_lt_used { (gone < used) × (used ≤ length rows.old) }
-    requires by_index { (k : ℕ) → 0 < k → k < used → (0 < (at rows.old k).distance) × ((at rows.old k).distance ≤ k) }
+    requires within { (gone < used) × (used ≤ length rows.old) }
+    requires distances { (k : ℕ) → 0 < k → k < used → (0 < (at rows.old k).distance) × ((at rows.old k).distance ≤ k) }
     ensures { Taken rows.old used gone rows.new }
 {
     close(rows, used, gone);
@@ -155,8 +155,8 @@ fn raised(entry: RowOf, new: usize) -> RowOf
 
 // Adds one to the rows before the row that comes that count its parent.
 fn grow(rows: &mut [FlatRow], parent: usize, new: usize)
-    requires in_bounds { new ≤ length rows.old }
-    requires by_index { (m : ℕ) → m < new → (at rows.old m).size < 18446744073709551615 }
+    requires within { new ≤ length rows.old }
+    requires sizes { (m : ℕ) → m < new → (at rows.old m).size < 18446744073709551615 }
     ensures { Changed no_row rows.old (grows parent) new rows.new }
 {
     for m in 0..new {
@@ -166,8 +166,8 @@ fn grow(rows: &mut [FlatRow], parent: usize, new: usize)
 
 // Moves the rows from the place of the row that comes up by one.
 fn open(rows: &mut [FlatRow], used: usize, new: usize)
-    requires le_used { (new ≤ used) × (used < length rows.old) }
-    requires by_index { (k : ℕ) → new ≤ k → k < used → (at rows.old k).distance ≤ k }
+    requires within { (new ≤ used) × (used < length rows.old) }
+    requires distances { (k : ℕ) → new ≤ k → k < used → (at rows.old k).distance ≤ k }
     ensures { HasOpened rows.old used new rows.new }
 {
     let mut k = used;
@@ -179,8 +179,8 @@ fn open(rows: &mut [FlatRow], used: usize, new: usize)
 
 // Raises the entries of the rows from the place of the row that comes.
 fn raise(index: &mut [RowOf], used: usize, new: usize)
-    requires used_in_bounds { used ≤ length index.old }
-    requires by_index { (k : ℕ) → k < used → (entry_at index.old k).row < 18446744073709551615 }
+    requires within { used ≤ length index.old }
+    requires rows { (k : ℕ) → k < used → (entry_at index.old k).row < 18446744073709551615 }
     ensures { Changed no_entry index.old (λ _. raises new) used index.new }
 {
     for k in 0..used {
@@ -190,9 +190,9 @@ fn raise(index: &mut [RowOf], used: usize, new: usize)
 
 // Puts a row for `node` at a spot among the first `used` rows.
 pub fn put_in(rows: &mut [FlatRow], used: usize, spot: Spot, node: Node)
-    requires parent_le_place { (spot.parent ≤ spot.place) × (spot.place ≤ used) × (used < length rows.old) }
-    requires by_index { (m : ℕ) → m < spot.place → (at rows.old m).size < 18446744073709551615 }
-    requires by_index_2 { (k : ℕ) → spot.place ≤ k → k < used → (at rows.old k).distance ≤ k }
+    requires within { (spot.parent ≤ spot.place) × (spot.place ≤ used) × (used < length rows.old) }
+    requires sizes { (m : ℕ) → m < spot.place → (at rows.old m).size < 18446744073709551615 }
+    requires distances { (k : ℕ) → spot.place ≤ k → k < used → (at rows.old k).distance ≤ k }
     ensures { Planted rows.old used spot.place spot.parent node rows.new }
 {
     open(rows, used, spot.place);
@@ -206,8 +206,8 @@ pub fn put_in(rows: &mut [FlatRow], used: usize, spot: Spot, node: Node)
 
 // Puts an entry among the first `used` entries.
 pub fn enlist(index: &mut [RowOf], used: usize, entry: RowOf)
-    requires used_in_bounds { used ≤ length index.old }
-    requires by_index { (k : ℕ) → k < used → (entry_at index.old k).row < 18446744073709551615 }
+    requires within { used ≤ length index.old }
+    requires rows { (k : ℕ) → k < used → (entry_at index.old k).row < 18446744073709551615 }
     ensures { Enlisted index.old used entry index.new }
 {
     raise(index, used, entry.row);

@@ -69,7 +69,7 @@ pub fn behind_attributes(rows: &[FlatRow], used: usize, place: usize, bound: Opt
 
 // The last child before the row at `place` of the same parent; 0 for none.
 pub fn left_of(rows: &[FlatRow], used: usize, place: usize) -> u32
-    requires place_nonzero { (0 < place) × (place < used) × (used ≤ length rows.now) }
+    requires within { (0 < place) × (place < used) × (used ≤ length rows.now) }
     requires laid { Laid rows.now used }
     requires plain { Plain rows.now used }
     ensures { result ≡ last_where (child_row (at rows.now place).node.parent) (take place (records rows.now used)) }

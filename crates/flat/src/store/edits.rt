@@ -39,8 +39,8 @@ impl FlatStore {
     }
 
     pub(super) fn rename_row(&mut self, row: usize, name: u16)
-        requires row_lt_used { row < self.old.used }
-        requires tt_value { Ok tt ≡ rename_says (means self.old.rows.items self.old.used) (at self.old.rows.items row).node.id name }
+        requires there { row < self.old.used }
+        requires says { Ok tt ≡ rename_says (means self.old.rows.items self.old.used) (at self.old.rows.items row).node.id name }
         ensures leaves { means self.new.rows.items self.new.used ≡ rename_leaves (means self.old.rows.items self.old.used) (at self.old.rows.items row).node.id name }
         ensures room { vec_len self.new.rows ≡ vec_len self.old.rows }
     {
@@ -48,8 +48,8 @@ impl FlatStore {
     }
 
     pub(super) fn set_value_of(&mut self, row: usize, value: u32)
-        requires row_lt_used { row < self.old.used }
-        requires tt_value { Ok tt ≡ set_value_says (means self.old.rows.items self.old.used) (at self.old.rows.items row).node.id }
+        requires there { row < self.old.used }
+        requires says { Ok tt ≡ set_value_says (means self.old.rows.items self.old.used) (at self.old.rows.items row).node.id }
         ensures leaves { means self.new.rows.items self.new.used ≡ set_value_leaves (means self.old.rows.items self.old.used) (at self.old.rows.items row).node.id value }
         ensures room { vec_len self.new.rows ≡ vec_len self.old.rows }
     {

@@ -29,8 +29,8 @@ impl FlatStore {
 
     // Behind the child `left` of the row `parent`.
     fn spot_behind(&self, parent: usize, node: Node, left: u32) -> Option<Spot>
-        requires parent_lt_used { (parent < self.now.used) × ((at self.now.rows.items parent).node.id ≡ node.parent) × (is_element (at self.now.rows.items parent).node.kind ≡ true) }
-        requires kind_value { (is_attribute node.kind ≡ false) × (left ≢ 0) }
+        requires element { (parent < self.now.used) × ((at self.now.rows.items parent).node.id ≡ node.parent) × (is_element (at self.now.rows.items parent).node.kind ≡ true) }
+        requires child { (is_attribute node.kind ≡ false) × (left ≢ 0) }
         ensures { Spotted self.now.rows.items self.now.used node left result }
     {
         let Some(row) = self.row_with(left) else {
@@ -49,8 +49,8 @@ impl FlatStore {
 
     // Right behind the attributes of the row `parent`; an attribute where its identifier belongs.
     fn first_spot(&self, parent: usize, node: Node) -> Spot
-        requires parent_lt_used { (parent < self.now.used) × ((at self.now.rows.items parent).node.id ≡ node.parent) × (is_element (at self.now.rows.items parent).node.kind ≡ true) }
-        requires id_value { view (means self.now.rows.items self.now.used) node.id ≡ None }
+        requires element { (parent < self.now.used) × ((at self.now.rows.items parent).node.id ≡ node.parent) × (is_element (at self.now.rows.items parent).node.kind ≡ true) }
+        requires fresh { view (means self.now.rows.items self.now.used) node.id ≡ None }
         ensures { Suited self.now.rows.items self.now.used node 0 result }
     {
         let bound = if is_attribute(node.kind) {

@@ -23,8 +23,8 @@ impl FlatStore {
     }
 
     pub(super) fn take_row(&mut self, row: usize)
-        requires row_lt_used { row < self.old.used }
-        requires tt_value { Ok tt ≡ take_says (means self.old.rows.items self.old.used) (at self.old.rows.items row).node.id }
+        requires there { row < self.old.used }
+        requires says { Ok tt ≡ take_says (means self.old.rows.items self.old.used) (at self.old.rows.items row).node.id }
         ensures leaves { means self.new.rows.items self.new.used ≡ take_leaves (means self.old.rows.items self.old.used) (at self.old.rows.items row).node.id }
         ensures room { vec_len self.new.rows ≡ vec_len self.old.rows }
     {

@@ -1,4 +1,4 @@
 use Rattle.flat.proofs.shifts.enlist.Goals as goal
 
 pub returns : goal.returns
-returns c = (c.raise.new.index, c.insert-row.result, c.raise.ensures, c.insert-row.ensures.moves, c.insert-row.ensures.order)
+returns c = (c.raise.new.index, c.insert_row.result, c.raise.ensures, c.insert_row.ensures.moves, c.insert_row.ensures.order)

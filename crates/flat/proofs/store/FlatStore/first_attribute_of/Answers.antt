@@ -1,9 +1,7 @@
-use Rattle.std.proofs.Common.{◌≡◌, ℕ, ◌+◌, ◌<◌, true, false, List, None, Ok, sym, ap, ◌∙◌, subst, arith}
-use Rattle.document.specs.Table.{is_attribute}
-use Rattle.flat.specs.declared.rows.FlatRow.{FlatRow}
+use Rattle.std.proofs.Common.{◌≡◌, ◌+◌, Ok, ap, ◌∙◌}
 use Rattle.flat.specs.Means.{at}
-use Rattle.flat.specs.Walks.{child_at, attribute_at, Behind}
-use Rattle.flat.proofs.Holding.{R, X, fits, held, in_order, read_at}
+use Rattle.flat.specs.Walks.{attribute_at}
+use Rattle.flat.proofs.Holding.{R, X, fits, held, read_at}
 use Rattle.flat.proofs.Answering.{first_attribute_is}
 use Rattle.flat.proofs.store.FlatStore.first_attribute_of.Goals as goal
 

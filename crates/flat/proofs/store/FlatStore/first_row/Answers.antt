@@ -1,4 +1,4 @@
-use Rattle.std.proofs.Common.{◌≡◌, ◌<◌, refl, ap, arith}
+use Rattle.std.proofs.Common.{refl, ap, arith}
 use Rattle.flat.specs.declared.rows.FlatRow.{FlatRow}
 use Rattle.flat.proofs.Holding.{R, X, fits, held, read_at}
 use Rattle.flat.proofs.Answering.{root_is}

@@ -1,26 +1,19 @@
-use Rattle.std.proofs.Common.{◌≡◌, Ok, Err, sym, refl, ap, ◌∙◌, subst, arith}
-use Rattle.records.specs.declared.nodes.Kind.{Kind}
-use Rattle.records.specs.declared.nodes.Kind.TheVariants.{Element, Attribute, Text}
-use Rattle.faults.specs.declared.StoreFault.TheVariants.{Misformed, Absent, Unsuited}
-use Rattle.store.specs.Views.{view}
-use Rattle.store.specs.Says.{Answer, is_text, is_element, rename_of, rename_says, set_value_of, set_value_says}
-use Rattle.flat.specs.declared.rows.FlatRow.{FlatRow}
-use Rattle.flat.specs.Means.{at, means}
+use Rattle.std.proofs.Common.{refl, arith}
 use Rattle.flat.proofs.Holding.{R, X, fits, held, read_at}
 use Rattle.flat.proofs.Editing.{set_value_stored, set_value_means}
 use Rattle.flat.proofs.store.FlatStore.set_value_of.Goals as goal
 
-pub invariant-of-self : goal.invariant-of-self
-invariant-of-self c =
+pub invariant_of-self : goal.invariant_of-self
+invariant_of-self c =
     let me = c.args.self.now in
-    let here = read_at me c.args.row c.index-mut.result.now c.requires.0 c.index-mut.ensures.value in
-    (omega arith, (omega arith, (∣ set_value_stored (R me) (X me) me.used (fits me) (held me) c.args.row c.requires.0 c.args.value c.index-mut.result.now here c.requires.1 ∣₁, tt)))
+    let here = read_at me c.args.row c.index_mut.result.now c.requires.there c.index_mut.ensures.value in
+    record { within = omega arith; level = omega arith; stored = ∣ set_value_stored (R me) (X me) me.used (fits me) (held me) c.args.row c.requires.there c.args.value c.index_mut.result.now here c.requires.says ∣₁ }
 
 pub returns : goal.returns
 returns c =
     let me = c.args.self.now in
-    let here = read_at me c.args.row c.index-mut.result.now c.requires.0 c.index-mut.ensures.value in
+    let here = read_at me c.args.row c.index_mut.result.now c.requires.there c.index_mut.ensures.value in
     record {
-      leaves = set_value_means (R me) (X me) me.used (fits me) (held me) c.args.row c.requires.0 c.args.value c.index-mut.result.now here c.requires.1;
+      leaves = set_value_means (R me) (X me) me.used (fits me) (held me) c.args.row c.requires.there c.args.value c.index_mut.result.now here c.requires.says;
       room = refl;
     }
