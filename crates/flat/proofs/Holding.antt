@@ -3,7 +3,7 @@ use Rattle.std.proofs.Common.{◌≡◌, ℕ, ◌<◌, ◌≤◌, List, length, 
 use Rattle.std.proofs.lemmas.List.{get_or_read}
 use Rattle.ordered.specs.declared.entries.RowOf.{RowOf}
 use Rattle.flat.specs.declared.rows.FlatRow.{FlatRow}
-use Rattle.flat.specs.declared.store.FlatStore.{FlatStore}
+use Rattle.flat.specs.declared.flat_store.FlatStore.{FlatStore}
 use Rattle.flat.specs.Means.{no_row, at, Plain, Stored}
 use Rattle.flat.proofs.Certain.{stored}
 use Rattle.flat.proofs.Standing.{plain}

@@ -1,11 +1,11 @@
 // The flat store: rows in document order, each with the distance to its parent's row and the size of its subtree.
 #![tactic(auto)]
 
+mod flat_store;
 mod kinds;
 mod rows;
 mod shifts;
-mod store;
 mod walks;
 
+pub use flat_store::{FlatStore, ROOM};
 pub use rows::FlatRow;
-pub use store::{FlatStore, ROOM};

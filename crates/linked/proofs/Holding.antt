@@ -14,7 +14,7 @@ use Rattle.store.proofs.Facts.{kept_prop, options_set}
 use Rattle.ordered.specs.declared.entries.RowOf.{RowOf}
 use Rattle.linked.specs.contracts.row.Row.{the_row}
 use Rattle.linked.specs.declared.row.Row.{Row}
-use Rattle.linked.specs.declared.store.LinkedStore.{LinkedStore}
+use Rattle.linked.specs.declared.linked_store.LinkedStore.{LinkedStore}
 use Rattle.linked.specs.Rows.{row_of}
 use Rattle.linked.specs.Tables.{Lookup, Shows}
 use Rattle.linked.specs.Stores.{Stores, rows_of, one_document}

@@ -26,7 +26,7 @@ use Rattle.ordered.specs.declared.entries.RowOf.{RowOf}
 use Rattle.linked.specs.declared.row.Row.{Row}
 use Rattle.linked.specs.declared.row.Siblings.{Siblings}
 use Rattle.linked.specs.declared.row.Siblings.TheVariants.{Children, Attributes}
-use Rattle.linked.specs.declared.store.LinkedStore.{LinkedStore}
+use Rattle.linked.specs.declared.linked_store.LinkedStore.{LinkedStore}
 use Rattle.linked.specs.Rows.{seen, row, row_of, with_record, row_among, siblings_of}
 use Rattle.linked.specs.Tables.{Lookup, Shows, changed, linked_in, linked_out}
 use Rattle.linked.specs.Stores.{Stores, rows_of}

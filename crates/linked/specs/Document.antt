@@ -2,7 +2,7 @@
 use Rattle.std.specs.Prelude.{vec_items}
 use Rattle.document.specs.Tree.{Forest}
 use Rattle.store.specs.Meaning.{meant}
-use Rattle.linked.specs.declared.store.LinkedStore.{LinkedStore}
+use Rattle.linked.specs.declared.linked_store.LinkedStore.{LinkedStore}
 use Rattle.linked.specs.Stores.{Stores, one_document}
 
 abbrev pub document : LinkedStore → Forest

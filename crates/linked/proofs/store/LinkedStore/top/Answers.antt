@@ -1,5 +1,0 @@
-use Rattle.linked.proofs.Holding.{is_rooted}
-use Rattle.linked.proofs.store.LinkedStore.top.Goals as goal
-
-pub returns : goal.returns
-returns c = is_rooted c.args.self.now
