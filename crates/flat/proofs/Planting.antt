@@ -9,11 +9,11 @@ use Rattle.flat.specs.Means.{at, up, Laid, Plain}
 use Rattle.flat.specs.Shifts.{lifted, Planted, Gap}
 use Rattle.flat.proofs.Families.{up_before}
 
-leb-true : (a b : ℕ) → a ≤ b → leb a b ≡ true
-leb-true a b h = grind (arith, nat_tests)
+leb_true : (a b : ℕ) → a ≤ b → leb a b ≡ true
+leb_true a b h = grind (arith, nat_tests)
 
-leb-false : (a b : ℕ) → b < a → leb a b ≡ false
-leb-false a b h = grind (arith, nat_tests)
+leb_false : (a b : ℕ) → b < a → leb a b ≡ false
+leb_false a b h = grind (arith, nat_tests)
 
 -- the subtree of a row that a row counts ends no later
 pub nested : (R : List FlatRow) (n : ℕ) (L : Laid R n) (P : Plain R n) (a q : ℕ) → q < n → a ≤ q → q < a + (at R a).size → q + (at R q).size ≤ a + (at R a).size
@@ -55,13 +55,13 @@ module _ (R S : List FlatRow) (n q i : ℕ) (x : Node) (L : Laid R n) (P : Plain
 
       go : (q < m) ⊎ (m ≤ q) → (q < m + (at R m).size) ⊎ (m + (at R m).size ≤ q) → Low m
       go (inl c) _ =
-          let e : at S m ≡ at R m = T.low m a ∙ rw (leb-false m q c) in
+          let e : at S m ≡ at R m = T.low m a ∙ rw (leb_false m q c) in
           still e (G.clear m c a, (λ y. absurd (omega arith)), ap (λ (r : FlatRow). r.size) e)
       go (inr c) (inl d) =
-          let e : at S m ≡ record { node = (at R m).node; distance = (at R m).distance; size = (at R m).size + 1 } = T.low m a ∙ rw (leb-true m q c, lt-ltb q (m + (at R m).size) d) in
+          let e : at S m ≡ record { node = (at R m).node; distance = (at R m).distance; size = (at R m).size + 1 } = T.low m a ∙ rw (leb_true m q c, lt-ltb q (m + (at R m).size) d) in
           record { node = ap (λ (r : FlatRow). r.node) e; distance = ap (λ (r : FlatRow). r.distance) e; size = inl (c, d, ap (λ (r : FlatRow). r.size) e) }
       go (inr c) (inr d) =
-          let e : at S m ≡ at R m = T.low m a ∙ rw (leb-true m q c, le-ltb q (m + (at R m).size) d) in
+          let e : at S m ≡ at R m = T.low m a ∙ rw (leb_true m q c, le-ltb q (m + (at R m).size) d) in
           still e (omega (arith, G.after), (λ y. d), ap (λ (r : FlatRow). r.size) e)
 
   low_up : (m : ℕ) → m < i → up S m ≡ up R m

@@ -2,7 +2,7 @@
 ghost use Rattle.std.specs.Prelude.{◌≡◌, ℕ, ◌<◌, ◌≤◌, length, take};
 ghost use Rattle.store.specs.Listed.{child_row, last_where};
 ghost use Rattle.flat.specs.Means.{at, nodes as records, Laid, Plain};
-ghost use Rattle.flat.specs.Walks.{child_at, attribute_at, passes as is-passed, Behind};
+ghost use Rattle.flat.specs.Walks.{child_at, attribute_at, passes as is_passed, Behind};
 
 use crate::kinds::is_attribute;
 use crate::rows::FlatRow;
@@ -42,7 +42,7 @@ pub fn attribute_at(rows: &[FlatRow], used: usize, place: usize, parent: u32) ->
 
 // Whether a node is an attribute of `parent`, up to a bound where there is one.
 fn passes(node: Node, parent: u32, bound: Option<u32>) -> bool
-    ensures { result ≡ is-passed parent bound node }
+    ensures { result ≡ is_passed parent bound node }
 {
     if node.parent == parent && is_attribute(node.kind) {
         match bound {

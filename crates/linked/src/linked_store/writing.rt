@@ -5,7 +5,7 @@ ghost use Rattle.store.specs.Says.{put_says, put_leaves, take_says, take_leaves,
 ghost use Rattle.store.specs.Links.{next_child, attribute_before, attribute_from};
 ghost use Rattle.linked.specs.Document.{document};
 ghost use Rattle.linked.specs.Rows.{seen};
-ghost use Rattle.linked.specs.Places.{neighbours as neighbours-of, stands_behind};
+ghost use Rattle.linked.specs.Places.{neighbours as neighbours_of, stands_behind};
 
 use super::LinkedStore;
 use crate::row::{Row, Siblings};
@@ -48,7 +48,7 @@ impl LinkedStore {
 
     // The siblings between which a node comes to stand.
     fn neighbours(&self, among: Siblings, node: Node, left: u32) -> (u32, u32)
-        ensures { result ≡ neighbours-of (document self.now) among node left }
+        ensures { result ≡ neighbours_of (document self.now) among node left }
     {
         match among {
             Siblings::Children => (left, self.child_behind(node, left)),
