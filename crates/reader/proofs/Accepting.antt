@@ -1,10 +1,9 @@
 -- What a file that passes the tests is.
-use Rattle.std.proofs.Common.{◌≡◌, ℕ, ◌+◌, ◌-◌, ◌*◌, ◌/◌, ◌%◌, ◌<◌, ◌≤◌, Bool, true, false, cond, eqb, List, [], ◌∷◌, length, get_or, None, Ok, Err, Result, sym, refl, ap, ◌∙◌, arith}
+use Rattle.std.proofs.Common.{◌≡◌, ℕ, ◌+◌, ◌-◌, ◌/◌, ◌%◌, ◌<◌, Bool, true, false, eqb, List, length, get_or, None, Ok, Err, sym, refl, ap, ◌∙◌, arith}
 use Rattle.std.proofs.lemmas.Bool.{eqb-true}
-use Rattle.faults.specs.declared.FileFault.{FileFault}
 use Rattle.reader.specs.Accepted.{DocumentFile, ListFile}
 use Rattle.reader.specs.Bytes.{records, file_of}
-use Rattle.reader.specs.Reading.{if_whole, structure_from, misformed_from, document_nodes, document_tested, list_operations, list_nodes, list_tested}
+use Rattle.reader.specs.Reading.{if_whole, structure_from, misformed_from, document_tested, list_operations, list_nodes, list_tested}
 use Rattle.reader.proofs.Rows.{length_records, file_of_records}
 use Rattle.reader.proofs.Back.{counted, nodes_back, tables_back}
 

@@ -1,5 +1,5 @@
 -- What the record at a place hands out.
-use Rattle.std.proofs.Common.{◌≡◌, ℕ, ◌+◌, ◌-◌, ◌*◌, ◌/◌, ◌<◌, ◌≤◌, Bool, true, false, cond, ◌||◌, ltb, List, [], ◌∷◌, length, get_or, take, drop, is_some, Some, None, sym, refl, ap, ◌∙◌, true≢false, arith, length-drop, ltb-false}
+use Rattle.std.proofs.Common.{◌≡◌, ℕ, ◌+◌, ◌-◌, ◌*◌, ◌/◌, ◌<◌, ◌≤◌, Bool, true, false, cond, List, length, get_or, take, drop, is_some, Some, None, refl, ap, ◌∙◌, true≢false, arith, length-drop, ltb-false}
 use Rattle.codec.specs.declared.spelling.Record.{Record}
 use Rattle.records.specs.declared.operations.Operation.{Operation}
 use Rattle.records.specs.Formed.{kind_of}
@@ -7,7 +7,7 @@ use Rattle.codec.specs.Fields.{operation_of}
 use Rattle.codec.proofs.Spelled.{operation_back}
 use Rattle.faults.specs.declared.FileFault.TheVariants.{Structure, Misformed}
 use Rattle.reader.specs.Bytes.{records}
-use Rattle.reader.specs.Handed.{Step, end, gives, fault, step_operation, step_of}
+use Rattle.reader.specs.Handed.{end, gives, fault, step_operation, step_of}
 use Rattle.reader.specs.Reading.{ill_built}
 use Rattle.reader.proofs.Rows.{length_records}
 use Rattle.reader.proofs.Tests.{next_record, no_record}

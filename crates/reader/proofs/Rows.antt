@@ -1,6 +1,6 @@
 -- The records of a file, by place, and the file of records.
-use Rattle.std.proofs.Common.{◌≡◌, ℕ, zero, suc, ◌+◌, ◌-◌, ◌*◌, ◌/◌, ◌%◌, ◌<◌, ◌≤◌, List, [], ◌∷◌, ◌++◌, length, get_or, take, drop, Some, sym, refl, ap, ◌∙◌, subst, ap₂, append_assoc, append-nil, add-one, arith, length-append, length-drop, le-ltb}
-use Rattle.std.proofs.lemmas.List.{drop-drop, take-append-drop, drop_all, get_or-drop, nil_from_length, drop_at, take_at, length-take-le}
+use Rattle.std.proofs.Common.{◌≡◌, ℕ, zero, suc, ◌+◌, ◌*◌, ◌/◌, ◌%◌, ◌<◌, ◌≤◌, List, [], ◌∷◌, ◌++◌, length, get_or, take, drop, Some, sym, refl, ap, ◌∙◌, append_assoc, append-nil, arith, length-append, length-drop, le-ltb}
+use Rattle.std.proofs.lemmas.List.{drop-drop, take-append-drop, get_or-drop, nil_from_length, drop_at, take_at, length-take-le}
 use Rattle.codec.specs.declared.spelling.Record.{Record}
 use Rattle.codec.specs.Codec.{record_of, bytes_of, first_record}
 use Rattle.codec.proofs.Bytes.{record_back}

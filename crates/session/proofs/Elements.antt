@@ -1,5 +1,5 @@
 -- The open elements, outermost first in the slots, as a node comes.
-use Rattle.std.proofs.Common.{◌≡◌, ℕ, ◌+◌, ◌<◌, ◌≤◌, true, List, [], ◌∷◌, ◌++◌, length, take, set, sym, refl, ap, ◌∙◌, arith, length-take}
+use Rattle.std.proofs.Common.{◌≡◌, ℕ, ◌+◌, ◌<◌, ◌≤◌, true, List, length, take, set, sym, refl, ap, ◌∙◌, arith, length-take}
 use Rattle.std.proofs.lemmas.List.{take_more_set, take-take}
 use Rattle.std.proofs.lemmas.Bool.{lt-ltb}
 use Rattle.records.specs.declared.nodes.Kind.{Kind}

@@ -1,29 +1,27 @@
 -- What a table that lists a document shows of its nodes.
-use Rattle.std.proofs.Common.{◌≡◌, ℕ, ◌+◌, ◌<◌, ◌≤◌, Bool, true, false, cond, not, ◌&&◌, eqb, ltb, ◌⊎◌, List, [], ◌∷◌, length, get_or, take, drop, Some, None, Ok, Err, Option, Result, sym, refl, ap, ◌∙◌, subst, inl, inr, one-add, arith}
+use Rattle.std.proofs.Common.{◌≡◌, ℕ, ◌+◌, ◌<◌, ◌≤◌, Bool, true, false, cond, not, ◌&&◌, eqb, ltb, List, [], ◌∷◌, length, get_or, Some, None, Ok, Err, Option, Result, sym, refl, ap, ◌∙◌, subst, one-add, arith}
 use mathlib.Core.List.{is_set}
 use mathlib.Core.Logic.{∥∥₁_elim}
 use native.Mathlib.Bridge.{le_prop}
 use base.Stored.{Coded-set}
-use Rattle.std.proofs.lemmas.Bool.{eq-eqb, ne_eqb, cases_eq}
+use Rattle.std.proofs.lemmas.Bool.{eq-eqb}
 use Rattle.records.specs.contracts.nodes.Node.{the_row}
 use Rattle.records.specs.declared.nodes.Node.{Node}
 use Rattle.faults.specs.declared.DocumentFault.{DocumentFault}
 use Rattle.faults.specs.declared.DocumentFault.TheVariants.{ScratchShort}
-use Rattle.faults.specs.declared.StoreFault.{StoreFault}
 use Rattle.faults.specs.declared.StoreFault.TheVariants.{Absent}
-use Rattle.document.specs.Tree.{Forest, nil, size}
+use Rattle.document.specs.Tree.{size}
 use Rattle.document.specs.Listing.{listing}
 use Rattle.document.specs.Table.{is_attribute, document_of, table_test}
 use Rattle.document.proofs.Passing.{passing_lists_document}
-use Rattle.store.specs.Kept.{Kept}
-use Rattle.store.specs.Listed.{position, row_with, found, first_where, last_where, child_row, attribute_row, Shown}
+use Rattle.store.specs.Listed.{position, row_with, found, first_where, child_row, attribute_row, Shown}
 use Rattle.store.specs.Views.{View, view, asked, first_of}
 use Rattle.store.proofs.Facts.{kept_prop}
 use Rattle.store.proofs.Formed.{well_formed_is_kept}
 use Rattle.store.proofs.Neighbours.{neighbours_are_listed, size_and_root_are_listed}
 use Rattle.store.proofs.Questions.{record_is_listed}
 use Rattle.sheet.specs.declared.scan.Below.TheVariants.{Children, Attributes}
-use Rattle.sheet.specs.Below.{no_node, below_row, next_of, next_behind, left_before, left_of}
+use Rattle.sheet.specs.Below.{no_node, next_of, left_before}
 use Rattle.nodetable.specs.Tested.{tested}
 use Rattle.sheet.specs.Sheets.{Lists, view_at, document_if}
 

@@ -1,13 +1,12 @@
 -- The tests on tables, one operation on, and as the loops make them.
-use Rattle.std.proofs.Common.{◌≡◌, ℕ, suc, ◌+◌, ◌-◌, ◌<◌, ◌≤◌, Bool, true, false, cond, not, ◌&&◌, ltb, leb, List, [], ◌∷◌, ◌++◌, length, get_or, take, drop, is_some, Some, None, Option, sym, refl, ap, ◌∙◌, arith, length-drop, le-ltb, lt-ltb, ne_eqb, leb-false, leb-true}
-use Rattle.std.proofs.lemmas.List.{at_drop_more, at_drop_all, drop-drop}
+use Rattle.std.proofs.Common.{◌≡◌, ℕ, suc, ◌+◌, ◌-◌, ◌<◌, ◌≤◌, Bool, true, false, not, leb, List, [], ◌∷◌, ◌++◌, length, get_or, take, drop, is_some, Some, None, sym, refl, ap, ◌∙◌, arith, length-drop, le-ltb, lt-ltb, ne_eqb, leb-false, leb-true}
+use Rattle.std.proofs.lemmas.List.{at_drop_more}
 use Rattle.records.specs.declared.nodes.Node.{Node}
 use Rattle.records.specs.declared.operations.Operation.{Operation}
-use Rattle.records.specs.Formed.{formed_node, formed_operation}
+use Rattle.records.specs.Formed.{formed_node}
 use Rattle.document.specs.Table.{misformed_from}
 use Rattle.changes.specs.Tables.{all_formed, miscounted_from, first_operation, misformed}
 use Rattle.writer.specs.Scans.{counts_from, formed_with, misformed_list_from}
-use Rattle.codec.proofs.Spelled.{some_none}
 
 -- no node of a table is misformed exactly when all are formed
 pub none_misformed : (n : ℕ) (xs : List Node) → is_some (misformed_from n xs) ≡ not (all_formed xs)

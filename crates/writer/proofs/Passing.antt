@@ -1,18 +1,17 @@
 -- The records of tables that pass the tests are read as those tables.
-use Rattle.std.proofs.Common.{◌≡◌, ℕ, zero, suc, ◌+◌, ◌-◌, ◌/◌, ◌<◌, ◌≤◌, Bool, true, false, cond, ◌&&◌, ◌||◌, eqb, ltb, List, [], ◌∷◌, ◌++◌, map, length, take, drop, is_some, Some, None, Option, sym, refl, ap, ◌∙◌, append_assoc, append-nil, arith, length-append, length-drop, ltb-false, le-ltb, lt-ltb, eq-eqb, ne_eqb}
+use Rattle.std.proofs.Common.{◌≡◌, ℕ, ◌+◌, ◌-◌, ◌≤◌, Bool, true, false, cond, ◌&&◌, eqb, ltb, List, [], ◌∷◌, ◌++◌, length, take, drop, is_some, Some, None, sym, refl, ap, ◌∙◌, append-nil, arith, length-append, length-drop, ltb-false, le-ltb}
 use lib.ListN.{length-map}
 use Rattle.std.proofs.lemmas.Bool.{and_parts, eqb-true}
 use Rattle.std.proofs.lemmas.List.{nil_from_length, length-take-le, take-append-drop}
-use Rattle.std.proofs.lemmas.Bool.Decides.{nat_tests}
 use Rattle.codec.specs.declared.spelling.Record.{Record}
 use Rattle.records.specs.declared.nodes.Node.{Node}
 use Rattle.records.specs.declared.operations.Operation.{Operation}
 use Rattle.records.specs.declared.operations.Code.{Code}
 use Rattle.records.specs.declared.operations.Code.TheVariants.{InsertBefore, InsertAfter, InsertFirst, InsertInto, InsertLast, InsertAttributes, Delete, ReplaceNode, ReplaceValue, ReplaceContent, Rename}
 use Rattle.records.specs.Formed.{kind_of, code_number, formed_node, formed_operation}
-use Rattle.codec.specs.Fields.{node_of, operation_of, record_of_node, record_of_operation}
-use Rattle.codec.proofs.Spelled.{some_none, node_back, operation_back, node_from, operation_from}
-use Rattle.reader.specs.Reading.{due_after, ill_built, structure_from, spells, misformed_from, and_some, operations_in, nodes_in}
+use Rattle.codec.specs.Fields.{record_of_node}
+use Rattle.codec.proofs.Spelled.{some_none, node_from, operation_from}
+use Rattle.reader.specs.Reading.{structure_from, misformed_from, and_some, operations_in, nodes_in}
 use Rattle.reader.specs.Layout.{document_records, list_records}
 use Rattle.changes.specs.Tables.{all_formed}
 use Rattle.writer.specs.Scans.{counts_from, misformed_list_from}

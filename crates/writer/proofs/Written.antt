@@ -1,5 +1,5 @@
 -- What is written is read back.
-use Rattle.std.proofs.Common.{◌≡◌, ℕ, ◌+◌, ◌-◌, ◌*◌, ◌/◌, ◌%◌, ◌<◌, ◌≤◌, Bool, true, false, cond, ◌||◌, eqb, ltb, List, [], ◌∷◌, length, take, Some, None, Ok, Err, Option, Result, sym, refl, ap, ◌∙◌, subst, arith, ltb-false, le-ltb, eq-eqb}
+use Rattle.std.proofs.Common.{◌≡◌, ℕ, ◌+◌, ◌-◌, ◌*◌, ◌/◌, ◌%◌, ◌≤◌, Bool, true, false, eqb, ltb, List, [], length, take, Some, None, Ok, Option, Result, refl, ap, ◌∙◌, arith, ltb-false, le-ltb, eq-eqb}
 use lib.ListN.{length-map}
 use Rattle.std.proofs.lemmas.List.{take_at}
 use Rattle.codec.specs.declared.spelling.Record.{Record}
@@ -8,15 +8,14 @@ use Rattle.records.specs.declared.operations.Operation.{Operation}
 use Rattle.codec.specs.Fields.{record_of_node}
 use Rattle.document.specs.Table.{misformed_from as misformed-node-from}
 use Rattle.writer.specs.ReadBack.{ReadsDocument, ReadsList}
-use Rattle.reader.specs.Bytes.{records, file_of, over, patched, Spelt}
-use Rattle.reader.specs.Reading.{structure_from, misformed_from, operations_in, nodes_in, document_nodes, document_read, list_operations, list_nodes, list_read}
+use Rattle.reader.specs.Bytes.{file_of, over, patched, Spelt}
 use Rattle.reader.specs.Layout.{document_records, list_records}
 use Rattle.writer.specs.Scans.{counts_from, misformed_list_from}
 use Rattle.writer.specs.Writing.{at_fault, tested_nodes, tested_list, tested_room}
 use Rattle.reader.proofs.Rows.{length_file_of, records_of_file, patch_front}
 use Rattle.changes.specs.Tables.{miscounted_from, first_operation, misformed}
 use Rattle.writer.proofs.Formed.{formed_from_none, counted_as, formed_as}
-use Rattle.writer.proofs.Passing.{document_reads, Reads, list_reads}
+use Rattle.writer.proofs.Passing.{document_reads, list_reads}
 use Rattle.writer.proofs.Chunks.{length_list_records}
 use Rattle.reader.proofs.Accepting.{ok_err}
 

@@ -1,10 +1,8 @@
 -- What writing a file answers.
-use Rattle.std.specs.Prelude.{ℕ, ◌+◌, ◌-◌, ◌*◌, ◌/◌, Bool, true, false, cond, ◌&&◌, List, [], ◌∷◌, ◌++◌, map, length, Some, None, Ok, Err, Option, Result, nat_lt}
+use Rattle.std.specs.Prelude.{ℕ, ◌+◌, ◌*◌, ◌/◌, cond, List, [], length, Some, None, Ok, Err, Option, Result, nat_lt}
 use Rattle.codec.specs.declared.spelling.Record.{Record}
 use Rattle.records.specs.declared.nodes.Node.{Node}
 use Rattle.records.specs.declared.operations.Operation.{Operation}
-use Rattle.records.specs.Formed.{formed_node, formed_operation}
-use Rattle.codec.specs.Fields.{record_of_node, record_of_operation}
 use Rattle.faults.specs.declared.FileFault.{FileFault}
 use Rattle.faults.specs.declared.FileFault.TheVariants.{TableShort}
 use Rattle.faults.specs.declared.ListFault.{ListFault}

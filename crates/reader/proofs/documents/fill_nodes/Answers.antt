@@ -1,6 +1,6 @@
-use Rattle.std.proofs.Common.{◌≡◌, length, None, sym, refl, ap, ◌∙◌, arith}
+use Rattle.std.proofs.Common.{◌≡◌, length, None, ap, arith}
 use Rattle.reader.specs.Bytes.{records}
-use Rattle.reader.specs.Reading.{misformed_from, document_nodes}
+use Rattle.reader.specs.Reading.{misformed_from}
 use Rattle.reader.proofs.Rows.{length_records}
 use Rattle.reader.proofs.Back.{no_operations, all_nodes}
 use Rattle.reader.proofs.documents.fill_nodes.Goals as goal

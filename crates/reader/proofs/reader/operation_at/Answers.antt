@@ -1,4 +1,4 @@
-use Rattle.std.proofs.Common.{◌≡◌, ◌+◌, ◌-◌, ◌*◌, sym, refl, ap, ◌∙◌, arith}
+use Rattle.std.proofs.Common.{◌≡◌, ◌+◌, ◌-◌, ◌*◌, sym, ◌∙◌, arith}
 use Rattle.reader.proofs.Handing.{step_end, step_ill_built, step_misformed, step_gives, part_within}
 use Rattle.reader.proofs.reader.operation_at.Goals as goal
 

@@ -1,6 +1,6 @@
-use Rattle.std.proofs.Common.{◌≡◌, ◌+◌, length, drop, sym, refl, ap, ◌∙◌, arith, eq-eqb, ne_eqb}
+use Rattle.std.proofs.Common.{◌+◌, length, drop, ap, arith, eq-eqb, ne_eqb}
 use Rattle.reader.specs.Bytes.{records}
-use Rattle.reader.specs.Reading.{operations_in, misformed_from}
+use Rattle.reader.specs.Reading.{operations_in}
 use Rattle.reader.proofs.Tests.{no_record, operations_on_due, nodes_on_due}
 use Rattle.reader.proofs.reading.count_operations.Goals as goal
 use Rattle.reader.proofs.reading.count_operations.Goals.{then-due-eq0, else-due-eq0}

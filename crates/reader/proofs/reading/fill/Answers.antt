@@ -1,7 +1,6 @@
-use Rattle.std.proofs.Common.{◌≡◌, ◌+◌, ◌≤◌, ◌∷◌, length, drop, Some, None, sym, refl, ap, ◌∙◌, arith, eq-eqb, ne_eqb}
-use Rattle.codec.proofs.Spelled.{some_none}
+use Rattle.std.proofs.Common.{◌≡◌, ◌+◌, ◌∷◌, drop, sym, refl, ap, ◌∙◌, arith, eq-eqb, ne_eqb}
 use Rattle.reader.specs.Bytes.{records}
-use Rattle.reader.specs.Reading.{operations_in, nodes_in, misformed_from}
+use Rattle.reader.specs.Reading.{operations_in, nodes_in}
 use Rattle.reader.proofs.Tests.{no_record, operations_on_due, nodes_on_due}
 use Rattle.reader.proofs.Filling.{filled_none, filled_turn, filled_idle, filled_room, filled_all}
 use Rattle.reader.proofs.reading.fill.Goals as goal

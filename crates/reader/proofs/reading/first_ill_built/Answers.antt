@@ -1,4 +1,4 @@
-use Rattle.std.proofs.Common.{◌≡◌, sym, refl, ap, ◌∙◌, arith}
+use Rattle.std.proofs.Common.{sym, ap, ◌∙◌, arith}
 use Rattle.reader.specs.Reading.{structure_from}
 use Rattle.reader.proofs.Tests.{no_record, structure_here, structure_on}
 use Rattle.reader.proofs.reading.first_ill_built.Goals as goal

@@ -1,5 +1,4 @@
-use Rattle.std.proofs.Common.{◌≡◌, drop, sym, refl, ap, ◌∙◌, arith}
-use Rattle.reader.specs.Bytes.{records}
+use Rattle.std.proofs.Common.{sym, ap, ◌∙◌, arith}
 use Rattle.reader.specs.Reading.{misformed_from}
 use Rattle.reader.proofs.Tests.{no_record, misformed_here, misformed_on}
 use Rattle.reader.proofs.reading.first_misformed.Goals as goal

@@ -1,4 +1,4 @@
-use Rattle.std.proofs.Common.{◌≡◌, ◌+◌, drop}
+use Rattle.std.proofs.Common.{◌≡◌, drop}
 use Rattle.store.specs.Listed.{first_where}
 use Rattle.sheet.specs.Below.{below_row}
 use Rattle.sheet.proofs.scan.first_of.Given as goal

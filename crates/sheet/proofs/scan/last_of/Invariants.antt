@@ -1,4 +1,4 @@
-use Rattle.std.proofs.Common.{◌≡◌, ◌+◌, drop}
+use Rattle.std.proofs.Common.{◌≡◌, drop}
 use Rattle.store.specs.Listed.{last_from, last_where}
 use Rattle.sheet.specs.Below.{below_row}
 use Rattle.sheet.proofs.scan.last_of.Given as goal

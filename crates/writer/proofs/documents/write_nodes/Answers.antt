@@ -1,4 +1,4 @@
-use Rattle.std.proofs.Common.{◌≡◌, length, sym, refl, ap, ◌∙◌, subst, arith}
+use Rattle.std.proofs.Common.{length, sym, refl, subst, arith}
 use lib.ListN.{length-map}
 use Rattle.codec.specs.Fields.{record_of_node}
 use Rattle.writer.specs.ReadBack.{ReadsDocument}

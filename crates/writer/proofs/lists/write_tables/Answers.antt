@@ -1,4 +1,4 @@
-use Rattle.std.proofs.Common.{◌≡◌, ◌+◌, length, sym, refl, ap, ◌∙◌, subst, arith}
+use Rattle.std.proofs.Common.{◌+◌, length, sym, refl, subst}
 use Rattle.writer.specs.ReadBack.{ReadsList}
 use Rattle.reader.specs.Layout.{list_records}
 use Rattle.writer.proofs.Chunks.{length_list_records}

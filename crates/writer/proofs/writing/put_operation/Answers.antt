@@ -1,7 +1,7 @@
-use Rattle.std.proofs.Common.{◌≡◌, ℕ, ◌+◌, ◌*◌, ◌≤◌, List, [], ◌∷◌, ◌++◌, length, sym, refl, ap, ◌∙◌, subst, arith}
+use Rattle.std.proofs.Common.{◌≡◌, ◌+◌, ◌*◌, [], ◌∷◌, sym, ap, ◌∙◌, subst, arith}
 use Rattle.codec.specs.Codec.{record_of, bytes_of}
 use Rattle.codec.specs.Fields.{record_of_operation}
-use Rattle.reader.specs.Bytes.{file_of, patched, Spelt}
+use Rattle.reader.specs.Bytes.{file_of, patched}
 use Rattle.reader.specs.Layout.{document_records}
 use Rattle.reader.proofs.Rows.{file_more, file_of_one}
 use Rattle.writer.proofs.writing.put_operation.Goals as goal

@@ -1,4 +1,4 @@
-use Rattle.std.proofs.Common.{Bool, true, false, cond, ltb, length, sym, refl, ap, ◌∙◌}
+use Rattle.std.proofs.Common.{length, sym}
 use Rattle.sheet.proofs.Showing.{none_listed, none_means, passed_tests}
 use Rattle.sheet.proofs.sheet.Sheet.open.Goals as goal
 

@@ -1,4 +1,4 @@
-use Rattle.std.proofs.Common.{◌≡◌, ℕ, ◌<◌, ◌≤◌, true, List, [], ◌∷◌, length, get_or, sym, refl, ◌∙◌, arith}
+use Rattle.std.proofs.Common.{◌≡◌, ◌<◌, ◌≤◌, true, List, [], ◌∷◌, length, get_or, sym, refl, ◌∙◌, arith}
 use Rattle.records.specs.declared.nodes.Node.{Node}
 use Rattle.store.specs.Listed.{first_where}
 use Rattle.sheet.proofs.Showing.{lists, root_listed}
