@@ -9,7 +9,7 @@ use base.Stored.{Coded-set}
 use Rattle.records.specs.declared.nodes.Kind.{Kind}
 use Rattle.records.specs.declared.nodes.Kind.TheVariants.{Element, Attribute, Text}
 use Rattle.records.specs.contracts.nodes.Kind.{the_row as kind_row}
-use Rattle.records.specs.contracts.nodes.Node.{the_row as Node-row}
+use Rattle.records.specs.contracts.nodes.Node.{the_row as node_row}
 use Rattle.document.specs.Tree.{Label, Forest, nil, node, Holds, Attributes, Above}
 use Rattle.store.specs.Kept.{Kept, Shaped, AtMostOne}
 use Rattle.store.specs.Meaning.{labels_set, documents_set}
@@ -19,7 +19,7 @@ kinds_set : IsSet Kind
 kinds_set = Coded-set kind_row.coded
 
 pub views_set : IsSet View
-views_set = view_set (Coded-set Node-row.coded) ℕ_set
+views_set = view_set (Coded-set node_row.coded) ℕ_set
 
 -- an option is a list of at most one
 to_list : {A : Type 0} → Option A → List A

@@ -2,7 +2,7 @@
 ghost use Rattle.std.specs.Prelude.{◌≡◌, ℕ};
 ghost use Rattle.document.specs.Table.{is_attribute};
 ghost use Rattle.store.specs.Views.{view};
-ghost use Rattle.store.specs.Says.{is_element, is_text, is_there, is_element_there, is_child_of, fits_root, fits_below, fits as node-fits, put_says, take_says, rename_says, set_value_says};
+ghost use Rattle.store.specs.Says.{is_element, is_text, is_there, is_element_there, is_child_of, fits_root, fits_below, fits as node_fits, put_says, take_says, rename_says, set_value_says};
 
 use crate::reading::Reading;
 use faults::StoreFault;
@@ -76,7 +76,7 @@ fn fits_below<R: Reading>(store: &R, node: Node, left: u32) -> bool
 }
 
 fn fits<R: Reading>(store: &R, node: Node, left: u32) -> bool
-    ensures { result ≡ node-fits (R.Reading.forest store.now) node left }
+    ensures { result ≡ node_fits (R.Reading.forest store.now) node left }
 {
     if node.parent == 0 {
         fits_root(store, node, left)

@@ -12,7 +12,7 @@ use Rattle.codec.proofs.Spelled.{some_none, operation_back}
 use Rattle.faults.specs.declared.FileFault.{FileFault}
 use Rattle.faults.specs.declared.FileFault.TheVariants.{Length}
 use Rattle.faults.specs.declared.Fault.TheVariants.{File}
-use Rattle.document.specs.Table.{misformed_from as misformed-node-from}
+use Rattle.document.specs.Table.{misformed_from as misformed_node_from}
 use Rattle.changes.specs.Tables.{all_formed, miscounted_from, first_operation, misformed}
 use Rattle.reader.specs.Bytes.{records}
 use Rattle.reader.specs.Reading.{structure_from, misformed_from, and_some, operations_in, nodes_in, if_whole, at_fault, document_nodes, list_operations, list_nodes}
@@ -60,12 +60,12 @@ module _ (d n : ℕ) (r : Record) (rs : List Record) (m : misformed_from (suc d)
   nodes_here = nodes_suc d n r rs ∙ ap (λ x. and_some x (nodes_in d rs)) due_node.1
 
 -- they are formed; k is the place of the first node
-nodes_pass : (due n k : ℕ) (rs : List Record) → misformed_from due n rs ≡ None → misformed-node-from k (nodes_in due rs) ≡ None
+nodes_pass : (due n k : ℕ) (rs : List Record) → misformed_from due n rs ≡ None → misformed_node_from k (nodes_in due rs) ≡ None
 nodes_pass due n k [] m = refl
 nodes_pass zero n k (r ∷ rs) m = nodes_pass r.link (n + 1) k rs (record_step n (operation_of r) _ m).2
 nodes_pass (suc d) n k (r ∷ rs) m =
     let x = due_node d n r rs m in
-    ap (misformed-node-from k) (nodes_here d n r rs m) ∙ rw (node_formed r x.0 x.1) (nodes_pass d (n + 1) (k + 1) rs x.2)
+    ap (misformed_node_from k) (nodes_here d n r rs m) ∙ rw (node_formed r x.0 x.1) (nodes_pass d (n + 1) (k + 1) rs x.2)
 
 nodes_formed : (due n : ℕ) (rs : List Record) → misformed_from due n rs ≡ None → all_formed (nodes_in due rs) ≡ true
 nodes_formed due n rs m = formed_from_none 0 (nodes_in due rs) (nodes_pass due n 0 rs m)

@@ -6,7 +6,7 @@ use Rattle.codec.specs.declared.spelling.Record.{Record}
 use Rattle.records.specs.declared.nodes.Node.{Node}
 use Rattle.records.specs.declared.operations.Operation.{Operation}
 use Rattle.codec.specs.Fields.{record_of_node}
-use Rattle.document.specs.Table.{misformed_from as misformed-node-from}
+use Rattle.document.specs.Table.{misformed_from as misformed_node_from}
 use Rattle.writer.specs.ReadBack.{ReadsDocument, ReadsList}
 use Rattle.reader.specs.Bytes.{file_of, over, patched, Spelt}
 use Rattle.reader.specs.Layout.{document_records, list_records}
@@ -47,7 +47,7 @@ reads_document xs h s =
     let long : length rs ≡ length xs = length-map xs record_of_node in
     let w = whole rs (length xs) long in
     let r = records_of_file rs s in
-    let d = document_reads xs (formed_from_none 0 xs (no_fault (misformed-node-from 0 xs) _ _ h).0) in
+    let d = document_reads xs (formed_from_none 0 xs (no_fault (misformed_node_from 0 xs) _ _ h).0) in
     record { answer = rw (w.0, w.1, r, d.0, le-ltb (length xs) (length xs) (omega arith)); nodes = rw (w.1, r) d.1 }
 
 -- what the tests on the tables of a list say to the loops
