@@ -1,71 +1,91 @@
 // The node or operation that a record spells, and the record of each.
 ghost use Rattle.std.specs.Prelude.{◌≡◌};
-ghost use Rattle.codec.specs.Fields.{node_of, record_of_node, operation_of, record_of_operation};
+ghost use Rattle.codec.specs.Fields.{node_from, record_of_node, operation_from, record_of_operation};
 
 use crate::spelling::Record;
-use records::{Code, Kind, Node, Operation};
+use records::{Code, Kind, Node, Operation, UnknownNumber};
 
-impl Record {
-    // `None` where the record is no well-formed node.
-    pub fn node(self) -> Option<Node>
-        ensures { result ≡ node_of self }
-    {
-        if self.spare != 0 {
-            return None;
-        }
-        let kind = Kind::from_number(self.tag)?;
-        let node = Node {
-            id: self.key,
-            parent: self.link,
-            kind,
-            name: self.name,
-            value: self.value,
-        };
-        if node.is_formed() { Some(node) } else { None }
+// A record that is no well-formed node, or no well-formed operation.
+#[derive(Clone, Copy, PartialEq, Eq, Debug)]
+pub struct Misformed;
+
+impl From<UnknownNumber> for Misformed {
+    fn from(_: UnknownNumber) -> Misformed {
+        Misformed
     }
+}
 
-    // `None` where the record is no well-formed operation.
-    pub fn operation(self) -> Option<Operation>
-        ensures { result ≡ operation_of self }
-    {
-        if self.spare != 0 {
-            return None;
+impl TryFrom<Record> for Node {
+    type Error = Misformed;
+
+    ghost try_from_gives = { λ spelt node. node ≡ node_from spelt };
+
+    fn try_from(spelt: Record) -> Result<Node, Misformed> {
+        if spelt.spare != 0 {
+            return Err(Misformed);
         }
-        let code = Code::from_number(self.tag)?;
+        let node = Node {
+            id: spelt.key,
+            parent: spelt.link,
+            kind: spelt.tag.try_into()?,
+            name: spelt.name,
+            value: spelt.value,
+        };
+        if node.is_formed() {
+            Ok(node)
+        } else {
+            Err(Misformed)
+        }
+    }
+}
+
+impl TryFrom<Record> for Operation {
+    type Error = Misformed;
+
+    ghost try_from_gives = { λ spelt operation. operation ≡ operation_from spelt };
+
+    fn try_from(spelt: Record) -> Result<Operation, Misformed> {
+        if spelt.spare != 0 {
+            return Err(Misformed);
+        }
         let operation = Operation {
-            target: self.key,
-            code,
-            count: self.link,
-            name: self.name,
-            value: self.value,
+            target: spelt.key,
+            code: spelt.tag.try_into()?,
+            count: spelt.link,
+            name: spelt.name,
+            value: spelt.value,
         };
         if operation.is_formed() {
-            Some(operation)
+            Ok(operation)
         } else {
-            None
+            Err(Misformed)
         }
     }
+}
 
-    pub fn of_node(node: Node) -> Record
-        ensures { result ≡ record_of_node node }
-    {
+impl From<Node> for Record {
+    ghost from_gives = { λ node spelt. spelt ≡ record_of_node node };
+
+    fn from(node: Node) -> Record {
         Record {
             key: node.id,
             link: node.parent,
-            tag: node.kind.number(),
+            tag: node.kind.into(),
             spare: 0,
             name: node.name,
             value: node.value,
         }
     }
+}
 
-    pub fn of_operation(operation: Operation) -> Record
-        ensures { result ≡ record_of_operation operation }
-    {
+impl From<Operation> for Record {
+    ghost from_gives = { λ operation spelt. spelt ≡ record_of_operation operation };
+
+    fn from(operation: Operation) -> Record {
         Record {
             key: operation.target,
             link: operation.count,
-            tag: operation.code.number(),
+            tag: operation.code.into(),
             spare: 0,
             name: operation.name,
             value: operation.value,

@@ -4,4 +4,5 @@
 mod fields;
 mod spelling;
 
+pub use fields::Misformed;
 pub use spelling::Record;

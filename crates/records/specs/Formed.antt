@@ -1,5 +1,6 @@
 -- Which nodes and operations are well formed, and the numbers of kinds and codes.
-use Rattle.std.specs.Prelude.{ℕ, Bool, cond, ◌&&◌, Some, None, Option, ◌==◌, nat_lt}
+use Rattle.std.specs.Prelude.{ℕ, Bool, cond, ◌&&◌, Some, None, Option, Result, ok_or, ◌==◌, nat_lt}
+use Rattle.records.specs.declared.numbers.UnknownNumber.{UnknownNumber}
 use Rattle.records.specs.declared.nodes.Kind.{Kind}
 use Rattle.records.specs.declared.nodes.Kind.TheVariants.{Element, Attribute, Text}
 use Rattle.records.specs.declared.nodes.Node.{Node}
@@ -14,6 +15,10 @@ kind_number Text = 3
 
 abbrev pub kind_of : ℕ → Option Kind
 kind_of n = cond (n == 1) (Some Element) (cond (n == 2) (Some Attribute) (cond (n == 3) (Some Text) None))
+
+-- the kind with a number, or the number that no kind has
+abbrev pub kind_from : ℕ → Result Kind UnknownNumber
+kind_from n = ok_or (kind_of n) (record { 0 = n })
 
 -- name and value against the kind
 abbrev pub fields_suit_kind : Kind → ℕ → ℕ → Bool
@@ -42,6 +47,10 @@ code_of n =
     cond (n == 11) (Some InsertBefore) (cond (n == 12) (Some InsertAfter) (cond (n == 13) (Some InsertFirst) (cond (n == 14) (Some InsertInto)
     (cond (n == 15) (Some InsertLast) (cond (n == 16) (Some InsertAttributes) (cond (n == 17) (Some Delete) (cond (n == 18) (Some ReplaceNode)
     (cond (n == 19) (Some ReplaceValue) (cond (n == 20) (Some ReplaceContent) (cond (n == 21) (Some Rename) None))))))))))
+
+-- the code with a number, or the number that no code has
+abbrev pub code_from : ℕ → Result Code UnknownNumber
+code_from n = ok_or (code_of n) (record { 0 = n })
 
 -- name and value against the code: only a renaming has a name, only a replaced value has a value
 abbrev pub fields_suit_code : Code → ℕ → ℕ → Bool

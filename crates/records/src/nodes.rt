@@ -1,35 +1,43 @@
 // A node of a document, as one row of a node table.
 ghost use Rattle.std.specs.Prelude.{◌≡◌};
-ghost use Rattle.records.specs.Formed.{kind_number, kind_of, formed_node};
+ghost use Rattle.records.specs.Formed.{kind_number, kind_from, formed_node};
 
-#[derive(Clone, Copy, PartialEq, Eq, Debug)]
+use crate::numbers::UnknownNumber;
+
+// What a node is; the numbers are those of the file format.
+#[derive(Clone, Copy, PartialEq, Eq, Debug, Default)]
 pub enum Kind {
+    #[default]
     Element = 1,
     Attribute = 2,
     Text = 3,
 }
 
-impl Kind {
-    pub fn number(self) -> u8
-        ensures { result ≡ kind_number self }
-    {
-        self as u8
-    }
+impl From<Kind> for u8 {
+    ghost from_gives = { λ kind number. number ≡ kind_number kind };
 
-    pub fn from_number(number: u8) -> Option<Kind>
-        ensures { result ≡ kind_of number }
-    {
+    fn from(kind: Kind) -> u8 {
+        kind as u8
+    }
+}
+
+impl TryFrom<u8> for Kind {
+    type Error = UnknownNumber;
+
+    ghost try_from_gives = { λ number kind. kind ≡ kind_from number };
+
+    fn try_from(number: u8) -> Result<Kind, UnknownNumber> {
         match number {
-            1 => Some(Kind::Element),
-            2 => Some(Kind::Attribute),
-            3 => Some(Kind::Text),
-            _ => None,
+            1 => Ok(Kind::Element),
+            2 => Ok(Kind::Attribute),
+            3 => Ok(Kind::Text),
+            _ => Err(UnknownNumber(number)),
         }
     }
 }
 
 // `parent` is the identifier of the parent, 0 for a root.
-#[derive(Clone, Copy, PartialEq, Eq, Debug)]
+#[derive(Clone, Copy, PartialEq, Eq, Debug, Default)]
 pub struct Node {
     pub id: u32,
     pub parent: u32,

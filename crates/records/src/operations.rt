@@ -1,9 +1,11 @@
 // An operation of a change list, as one row of an operation table.
 ghost use Rattle.std.specs.Prelude.{◌≡◌};
-ghost use Rattle.records.specs.Formed.{code_number, code_of, formed_operation};
+ghost use Rattle.records.specs.Formed.{code_number, code_from, formed_operation};
+
+use crate::numbers::UnknownNumber;
 
 // What an operation does; the numbers are those of the file format.
-#[derive(Clone, Copy, PartialEq, Eq, Debug)]
+#[derive(Clone, Copy, PartialEq, Eq, PartialOrd, Ord, Debug)]
 pub enum Code {
     InsertBefore = 11,
     InsertAfter = 12,
@@ -18,29 +20,33 @@ pub enum Code {
     Rename = 21,
 }
 
-impl Code {
-    pub fn number(self) -> u8
-        ensures { result ≡ code_number self }
-    {
-        self as u8
-    }
+impl From<Code> for u8 {
+    ghost from_gives = { λ code number. number ≡ code_number code };
 
-    pub fn from_number(number: u8) -> Option<Code>
-        ensures { result ≡ code_of number }
-    {
+    fn from(code: Code) -> u8 {
+        code as u8
+    }
+}
+
+impl TryFrom<u8> for Code {
+    type Error = UnknownNumber;
+
+    ghost try_from_gives = { λ number code. code ≡ code_from number };
+
+    fn try_from(number: u8) -> Result<Code, UnknownNumber> {
         match number {
-            11 => Some(Code::InsertBefore),
-            12 => Some(Code::InsertAfter),
-            13 => Some(Code::InsertFirst),
-            14 => Some(Code::InsertInto),
-            15 => Some(Code::InsertLast),
-            16 => Some(Code::InsertAttributes),
-            17 => Some(Code::Delete),
-            18 => Some(Code::ReplaceNode),
-            19 => Some(Code::ReplaceValue),
-            20 => Some(Code::ReplaceContent),
-            21 => Some(Code::Rename),
-            _ => None,
+            11 => Ok(Code::InsertBefore),
+            12 => Ok(Code::InsertAfter),
+            13 => Ok(Code::InsertFirst),
+            14 => Ok(Code::InsertInto),
+            15 => Ok(Code::InsertLast),
+            16 => Ok(Code::InsertAttributes),
+            17 => Ok(Code::Delete),
+            18 => Ok(Code::ReplaceNode),
+            19 => Ok(Code::ReplaceValue),
+            20 => Ok(Code::ReplaceContent),
+            21 => Ok(Code::Rename),
+            _ => Err(UnknownNumber(number)),
         }
     }
 }
@@ -60,7 +66,7 @@ impl Operation {
     pub fn is_formed(&self) -> bool
         ensures { result ≡ formed_operation self.now }
     {
-        match (self.code.number(), self.target, self.name, self.value) {
+        match (u8::from(self.code), self.target, self.name, self.value) {
             (11..=18 | 20, 1.., 0, 0) => true,
             (19, 1.., 0, _) => true,
             (21, 1.., 1.., 0) => true,

@@ -13,5 +13,5 @@ joined k l n v r p q s t = rw (p, q, s, t)
 pub returns : goal.returns
 unfolding record_of bytes_of
 returns c =
-    let e = joined _ _ _ _ c.args.self c.spell_four.ensures c.spell_four-2.ensures c.spell_two.ensures c.spell_four-3.ensures in
+    let e = joined _ _ _ _ c.args.self c.to_le_bytes.ensures c.to_le_bytes-2.ensures c.to_le_bytes-3.ensures c.to_le_bytes-4.ensures in
     record { value = e; back = ap record_of e ∙ record_from c.args.self [] (record { key = omega arith; link = omega arith; name = omega arith; value = omega arith }) }
