@@ -1,12 +1,15 @@
 // Why a call was refused: one enum for each layer, and one for a refusal of any layer.
 #![tactic(auto)]
 
-ghost use Rattle.std.specs.Prelude.{◌≡◌};
+ghost use Rattle.std.specs.Prelude.{◌≡◌, Some};
 ghost use Rattle.faults.specs.declared.Fault.TheVariants.{File, List, Document, Store};
 ghost use Rattle.faults.specs.Numbers.{report, told_file, told_list, told_document, told_store, told_book, told};
+ghost use Rattle.faults.specs.Shown.{shown};
+
+use std::fmt;
 
 // Number, layer and place, as a refusal is reported.
-#[derive(Clone, Copy)]
+#[derive(Clone, Copy, PartialEq, Eq, Debug)]
 pub struct Report {
     pub number: u8,
     pub layer: u8,
@@ -25,6 +28,15 @@ impl Report {
     }
 }
 
+// Three numbers with a blank between them.
+impl fmt::Display for Report {
+    ghost output = { λ report. Some (shown report) };
+
+    fn fmt<W: fmt::Write>(&self, f: &mut fmt::Formatter<W>) -> fmt::Result {
+        write!(f, "{} {} {}", self.number, self.layer, self.place)
+    }
+}
+
 // A file that cannot be read, or a table too short for what a file holds. The place is a record of the file.
 #[derive(Clone, Copy, PartialEq, Eq, Debug)]
 pub enum FileFault {
@@ -35,7 +47,7 @@ pub enum FileFault {
 }
 
 // A change list that is none, or does not suit the document. The place is an operation.
-#[derive(Clone, Copy)]
+#[derive(Clone, Copy, PartialEq, Eq, Debug)]
 pub enum ListFault {
     Structure(usize),
     Misformed(usize),
@@ -61,7 +73,7 @@ pub enum DocumentFault {
 }
 
 // A question or a write that a store refuses.
-#[derive(Clone, Copy)]
+#[derive(Clone, Copy, PartialEq, Eq, Debug)]
 pub enum StoreFault {
     // The node is not well formed, or a name is 0.
     Misformed,
@@ -83,7 +95,7 @@ pub enum BookFault {
 }
 
 // A refusal of any layer, as a session meets it.
-#[derive(Clone, Copy)]
+#[derive(Clone, Copy, PartialEq, Eq, Debug)]
 pub enum Fault {
     File(FileFault),
     List(ListFault),
@@ -123,11 +135,11 @@ impl From<StoreFault> for Fault {
     }
 }
 
-impl FileFault {
-    pub fn report(self) -> Report
-        ensures { result ≡ told_file self }
-    {
-        match self {
+impl From<FileFault> for Report {
+    ghost from_gives = { λ fault told. told ≡ told_file fault };
+
+    fn from(fault: FileFault) -> Report {
+        match fault {
             FileFault::Length(place) => Report::new(1, 1, place),
             FileFault::Structure(place) => Report::new(2, 1, place),
             FileFault::Misformed(place) => Report::new(3, 1, place),
@@ -136,11 +148,11 @@ impl FileFault {
     }
 }
 
-impl ListFault {
-    pub fn report(self) -> Report
-        ensures { result ≡ told_list self }
-    {
-        match self {
+impl From<ListFault> for Report {
+    ghost from_gives = { λ fault told. told ≡ told_list fault };
+
+    fn from(fault: ListFault) -> Report {
+        match fault {
             ListFault::Structure(place) => Report::new(2, 2, place),
             ListFault::Misformed(place) => Report::new(3, 2, place),
             ListFault::IdentifierTaken(place) => Report::new(8, 2, place),
@@ -155,11 +167,11 @@ impl ListFault {
     }
 }
 
-impl DocumentFault {
-    pub fn report(self) -> Report
-        ensures { result ≡ told_document self }
-    {
-        match self {
+impl From<DocumentFault> for Report {
+    ghost from_gives = { λ fault told. told ≡ told_document fault };
+
+    fn from(fault: DocumentFault) -> Report {
+        match fault {
             DocumentFault::ScratchShort => Report::new(21, 3, 0),
             DocumentFault::Misformed(place) => Report::new(3, 3, place),
             DocumentFault::IdentifierTwice(place) => Report::new(4, 3, place),
@@ -170,11 +182,11 @@ impl DocumentFault {
     }
 }
 
-impl StoreFault {
-    pub fn report(self) -> Report
-        ensures { result ≡ told_store self }
-    {
-        match self {
+impl From<StoreFault> for Report {
+    ghost from_gives = { λ fault told. told ≡ told_store fault };
+
+    fn from(fault: StoreFault) -> Report {
+        match fault {
             StoreFault::Misformed => Report::new(3, 4, 0),
             StoreFault::Known => Report::new(8, 4, 0),
             StoreFault::Absent => Report::new(11, 4, 0),
@@ -184,25 +196,25 @@ impl StoreFault {
     }
 }
 
-impl BookFault {
-    pub fn report(self) -> Report
-        ensures { result ≡ told_book self }
-    {
-        match self {
+impl From<BookFault> for Report {
+    ghost from_gives = { λ fault told. told ≡ told_book fault };
+
+    fn from(fault: BookFault) -> Report {
+        match fault {
             BookFault::TableShort => Report::new(22, 5, 0),
         }
     }
 }
 
-impl Fault {
-    pub fn report(self) -> Report
-        ensures { result ≡ told self }
-    {
-        match self {
-            Fault::File(f) => f.report(),
-            Fault::List(f) => f.report(),
-            Fault::Document(f) => f.report(),
-            Fault::Store(f) => f.report(),
+impl From<Fault> for Report {
+    ghost from_gives = { λ fault report. report ≡ told fault };
+
+    fn from(fault: Fault) -> Report {
+        match fault {
+            Fault::File(fault) => fault.into(),
+            Fault::List(fault) => fault.into(),
+            Fault::Document(fault) => fault.into(),
+            Fault::Store(fault) => fault.into(),
         }
     }
 }

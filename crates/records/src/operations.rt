@@ -5,7 +5,7 @@ ghost use Rattle.records.specs.Formed.{code_number, code_from, formed_operation}
 use crate::numbers::UnknownNumber;
 
 // What an operation does; the numbers are those of the file format.
-#[derive(Clone, Copy, PartialEq, Eq, PartialOrd, Ord, Debug)]
+#[derive(Clone, Copy, PartialEq, Eq, Debug)]
 pub enum Code {
     InsertBefore = 11,
     InsertAfter = 12,
