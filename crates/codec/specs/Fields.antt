@@ -21,7 +21,7 @@ node_of r = cond (r.spare == 0) (node_of_kind (kind_of r.tag) r) None
 
 -- the same, told as a result
 abbrev pub node_from : Record → Result Node Misformed
-node_from r = ok_or (node_of r) (record { })
+node_from r = ok_or (node_of r) (record {})
 
 abbrev pub record_of_node : Node → Record
 record_of_node n = record { key = n.id; link = n.parent; tag = kind_number n.kind; spare = 0; name = n.name; value = n.value }
@@ -39,7 +39,7 @@ operation_of r = cond (r.spare == 0) (operation_of_code (code_of r.tag) r) None
 
 -- the same, told as a result
 abbrev pub operation_from : Record → Result Operation Misformed
-operation_from r = ok_or (operation_of r) (record { })
+operation_from r = ok_or (operation_of r) (record {})
 
 abbrev pub record_of_operation : Operation → Record
 record_of_operation o = record { key = o.target; link = o.count; tag = code_number o.code; spare = 0; name = o.name; value = o.value }

@@ -1,6 +1,7 @@
 -- The open elements: outermost first in the slots, innermost first as a list of identifiers.
 use Rattle.std.proofs.Common.{◌≡◌, ℕ, ◌+◌, ◌-◌, ◌<◌, ◌≤◌, Bool, true, false, cond, ◌&&◌, eqb, List, [], ◌∷◌, ◌++◌, length, get_or, take, drop, set, Some, None, Option, sym, refl, ap, ◌∙◌, arith, length-append, length-take}
 use Rattle.std.proofs.lemmas.List.{take_more, take_more_set, take-take, take_all, at_drop_more}
+use Rattle.std.proofs.Math.Seq.{take-append_seam}
 use Rattle.std.proofs.lemmas.Bool.{eq-eqb, ne_eqb}
 use Rattle.records.specs.declared.nodes.Kind.{Kind}
 use Rattle.records.specs.declared.nodes.Kind.TheVariants.{Element, Attribute, Text}
@@ -26,13 +27,19 @@ open_ids_last n ss d p h =
     let g : take n ss ≡ take (n - 1) ss ++ get_or ss (n - 1) d ∷ [] = rw e at f in
     rw g (open_ids_push (take (n - 1) ss) (get_or ss (n - 1) d))
 
-pub closed_past : (p n : ℕ) (ss : List Slot) (d : Slot) → 0 < n → n ≤ length ss → ((get_or ss (n - 1) d).id ≡ p → ⊥)
-    → closed_to p (open_ids (take n ss)) ≡ closed_to p (open_ids (take (n - 1) ss))
-closed_past p n ss d h l ne = rw (open_ids_last n ss d h l, ne_eqb (get_or ss (n - 1) d).id p ne)
+-- the innermost element closes where it is not the parent, and stays open with those around it where it is
+pub closed_past : (p : ℕ) (ss around : List Slot) (s : Slot) → ss ≡ around ++ s ∷ [] → (s.id ≡ p → ⊥) → closed_to p (open_ids around) ≡ closed_to p (open_ids ss)
+closed_past p ss around s e ne = rw (e, open_ids_push around s, ne_eqb s.id p ne)
 
-pub closed_here : (p n : ℕ) (ss : List Slot) (d : Slot) → 0 < n → n ≤ length ss → (get_or ss (n - 1) d).id ≡ p
-    → closed_to p (open_ids (take n ss)) ≡ open_ids (take n ss)
-closed_here p n ss d h l e = rw (open_ids_last n ss d h l, eq-eqb (get_or ss (n - 1) d).id p e)
+pub closed_here : (p : ℕ) (ss around : List Slot) (s : Slot) → ss ≡ around ++ s ∷ [] → s.id ≡ p → closed_to p (open_ids ss) ≡ open_ids ss
+closed_here p ss around s e h = rw (e, open_ids_push around s, eq-eqb s.id p h)
+
+-- those around the innermost are the front of what was a front
+pub around_front : (ss all around : List Slot) (s : Slot) → ss ≡ take (length ss) all → ss ≡ around ++ s ∷ [] → length around + 1 ≡ length ss
+    → around ≡ take (length around) all
+around_front ss all around s front e long =
+    let f : take (length around) ss ≡ around = rw e (take-append_seam around (s ∷ [])) in
+    sym f ∙ ap (take (length around)) front ∙ take-take (length around) (length ss) all (omega arith)
 
 pub innermost_last : (p : ℕ) (ss : List Slot) (s : Slot) → 0 < length ss → s ≡ get_or ss (length ss - 1) s → innermost p (open_ids ss) ≡ eqb s.id p
 innermost_last p ss s h at =
@@ -96,14 +103,13 @@ order_more ids limit n x xs =
     go false b true s t = refl
     go false b false s t = refl
 
-pub order_on : (ids : List ℕ) (limit : Option ℕ) (xs : List Node) (i : ℕ) (d : Node) (s : Option (List ℕ × Option ℕ)) → i < length xs
-    → s ≡ after ids limit (get_or xs i d) → order_from ids limit i (drop i xs) ≡ onward i (drop (i + 1) xs) s
-order_on ids limit xs i d s h e =
-    at_drop_more (order_from ids limit i) xs i d h ∙ order_more ids limit i (get_or xs i d) (drop (i + 1) xs) ∙ ap (onward i (drop (i + 1) xs)) (sym e)
+pub order_on : (ids : List ℕ) (limit : Option ℕ) (xs : List Node) (i n : ℕ) (d : Node) (s : Option (List ℕ × Option ℕ)) → i < length xs
+    → s ≡ after ids limit (get_or xs i d) → order_from ids limit n (drop i xs) ≡ onward n (drop (i + 1) xs) s
+order_on ids limit xs i n d s h e =
+    at_drop_more (order_from ids limit n) xs i d h ∙ order_more ids limit n (get_or xs i d) (drop (i + 1) xs) ∙ ap (onward n (drop (i + 1) xs)) (sym e)
 
 -- behind the root, which is in the first slot
-pub order_behind_root : (xs : List Node) (x : Node) (ss : List Slot) (s : Slot) (r : Option ℕ) → 0 < length xs → 0 < length ss → x ≡ get_or xs 0 x
-    → true ≡ is_root x.kind x.parent → s.id ≡ x.id → r ≡ order_from (open_ids (take 1 (set ss 0 s))) (Some 0) 1 (drop 1 xs) → r ≡ out_of_order xs
-order_behind_root [] x ss s r h l at t e known = absurd (omega arith)
-order_behind_root (y ∷ xs) x [] s r h l at t e known = absurd (omega arith)
-order_behind_root (y ∷ xs) x (z ∷ ss) s r h l at t e known = rw (← at, ← t, ← e) known
+pub order_behind_root : (xs ys : List Node) (x : Node) (ss : List Slot) (s : Slot) (r : Option ℕ) → 0 < length ss → xs ≡ x ∷ ys
+    → true ≡ is_root x.kind x.parent → s.id ≡ x.id → r ≡ order_from (open_ids (take 1 (set ss 0 s))) (Some 0) 1 ys → r ≡ out_of_order xs
+order_behind_root xs ys x [] s r l at t e known = absurd (omega arith)
+order_behind_root xs ys x (z ∷ ss) s r l at t e known = rw (at, ← t, ← e) known

@@ -4,3 +4,4 @@ pub mod Least
 pub mod Repeated
 pub mod Scanning
 pub mod Sorting
+pub mod Misformed

@@ -1,5 +1,5 @@
 // Document order, by the elements that are open: those whose children may still come.
-ghost use Rattle.std.specs.Prelude.{◌≡◌, ◌+◌, ◌<◌, ◌≤◌, length, take, drop, Some};
+ghost use Rattle.std.specs.Prelude.{◌≡◌, ◌+◌, ◌<◌, ◌≤◌, length, take, Some};
 ghost use Rattle.document.specs.Table.{closed_to, innermost, order_from, is_root, out_of_order};
 ghost use Rattle.nodetable.specs.Order.{after_attribute, after_child, after, held, AtMost};
 ghost use Rattle.nodetable.specs.Scratch.{open_ids};
@@ -12,11 +12,14 @@ pub fn still_open(parent: u32, elements: &[Slot]) -> usize
     ensures within { result ≤ length elements.now }
     ensures kept { open_ids (take result elements.now) ≡ closed_to parent (open_ids elements.now) }
 {
-    let mut count = elements.len();
-    while count > 0 && !elements[count - 1].is_for(parent) {
-        count -= 1;
+    let mut open = elements;
+    while let Some((innermost, around)) = open.split_last() {
+        if innermost.id == parent {
+            break;
+        }
+        open = around;
     }
-    count
+    open.len()
 }
 
 // Whether `parent` is the innermost of the open elements.
@@ -24,7 +27,7 @@ fn is_innermost(parent: u32, elements: &[Slot]) -> bool
     ensures { result ≡ innermost parent (open_ids elements.now) }
 {
     match elements.last() {
-        Some(slot) => slot.is_for(parent),
+        Some(slot) => slot.id == parent,
         None => false,
     }
 }
@@ -68,8 +71,7 @@ fn behind_child(node: &Node, before: Open, slots: &mut [Slot]) -> Option<Open>
         Kind::Element => {
             slots[count] = Slot {
                 id: node.id,
-                name: 0,
-                place: 0,
+                ..Slot::EMPTY
             };
             Some(Open {
                 count: count + 1,
@@ -92,19 +94,19 @@ fn behind(node: &Node, before: Open, slots: &mut [Slot]) -> Option<Open>
     }
 }
 
-// The place of the first node behind the root out of document order; the root is in the first slot.
-fn first_unplaced(nodes: &[Node], slots: &mut [Slot]) -> Option<usize>
-    requires { (0 < length nodes.now) × (length nodes.now ≤ length slots.old) }
-    ensures { result ≡ order_from (open_ids (take 1 slots.old)) (Some 0) 1 (drop 1 nodes.now) }
+// The place of the first node out of document order among those behind the root, which is in the first slot.
+fn first_unplaced(behind_root: &[Node], slots: &mut [Slot]) -> Option<usize>
+    requires { length behind_root.now < length slots.old }
+    ensures { result ≡ order_from (open_ids (take 1 slots.old)) (Some 0) 1 behind_root.now }
 {
     let mut open = Open {
         count: 1,
         above: Some(0),
     };
-    for place in 1..nodes.len() {
-        match behind(&nodes[place], open, slots) {
+    for (passed, node) in behind_root.iter().enumerate() {
+        match behind(node, open, slots) {
             Some(next) => open = next,
-            None => return Some(place),
+            None => return Some(passed + 1),
         }
     }
     None
@@ -113,10 +115,7 @@ fn first_unplaced(nodes: &[Node], slots: &mut [Slot]) -> Option<usize>
 fn is_root(node: &Node) -> bool
     ensures { result ≡ is_root node.now.kind node.now.parent }
 {
-    match node.kind {
-        Kind::Element => node.parent == 0,
-        _ => false,
-    }
+    node.kind == Kind::Element && node.parent == 0
 }
 
 // The place of the first node out of document order.
@@ -124,14 +123,13 @@ pub fn first_out_of_order(nodes: &[Node], slots: &mut [Slot]) -> Option<usize>
     requires { length nodes.now ≤ length slots.old }
     ensures { result ≡ out_of_order nodes.now }
 {
-    match nodes.first() {
-        Some(root) if is_root(root) => {
+    match nodes.split_first() {
+        Some((root, behind_root)) if is_root(root) => {
             slots[0] = Slot {
                 id: root.id,
-                name: 0,
-                place: 0,
+                ..Slot::EMPTY
             };
-            first_unplaced(nodes, slots)
+            first_unplaced(behind_root, slots)
         }
         _ => Some(0),
     }

@@ -1,41 +1,47 @@
 // The tests in their order, each over the whole table.
-ghost use Rattle.std.specs.Prelude.{◌≡◌, ◌≤◌, length, drop};
-ghost use Rattle.document.specs.Table.{misformed_from, over_room, table_test};
+ghost use Rattle.std.specs.Prelude.{◌≡◌, ◌≤◌, length};
+ghost use Rattle.document.specs.Table.{misformed_from, identifier_key, name_key, over_room, table_test};
 ghost use Rattle.nodetable.specs.Scratch.{cleared};
 ghost use Rattle.nodetable.specs.Tested.{tested};
 
 use crate::order::first_out_of_order;
-use crate::repeats::{Key, first_repeat};
+use crate::repeats::first_repeat;
 use crate::scratch::{Guard, Slot};
 use faults::DocumentFault;
-use records::Node;
-
-// The first misformed node from a place on.
-fn misformed_behind(nodes: &[Node], start: usize) -> Option<usize>
-    ensures { result ≡ misformed_from start (drop start nodes.now) }
-{
-    for place in start..nodes.len() {
-        if !nodes[place].is_formed() {
-            return Some(place);
-        }
-    }
-    None
-}
+use records::{Kind, Node};
 
 pub fn first_misformed(nodes: &[Node]) -> Option<usize>
     ensures { result ≡ misformed_from 0 nodes.now }
 {
-    misformed_behind(nodes, 0)
+    nodes.iter().position(|node| !node.is_formed())
+}
+
+// No identifier may stand twice in a table.
+fn identifier(node: &Node) -> Option<(u32, u16)>
+    ensures { result ≡ identifier_key node.now }
+{
+    Some((node.id, 0))
+}
+
+// No name may stand twice among the attributes of an element.
+fn attribute_name(node: &Node) -> Option<(u32, u16)>
+    ensures { result ≡ name_key node.now }
+{
+    match node.kind {
+        Kind::Attribute => Some((node.parent, node.name)),
+        _ => None,
+    }
 }
 
 // The room, where there are more nodes.
 fn room_passed(room: usize, nodes: &[Node]) -> Option<usize>
     ensures { result ≡ over_room room nodes.now }
 {
-    if nodes.len() > room { Some(room) } else { None }
+    (nodes.len() > room).then_some(room)
 }
 
 // The tests in their order. The slots, at least as many as the nodes, are left as the tests used them.
+#[tactic(auto, unfolding(document::specs::Table::table_test))]
 fn test_in(room: usize, nodes: &[Node], slots: &mut [Slot]) -> Result<(), DocumentFault>
     requires { length nodes.now ≤ length slots.old }
     ensures { result ≡ table_test room nodes.now }
@@ -43,13 +49,13 @@ fn test_in(room: usize, nodes: &[Node], slots: &mut [Slot]) -> Result<(), Docume
     if let Some(place) = first_misformed(nodes) {
         return Err(DocumentFault::Misformed(place));
     }
-    if let Some(place) = first_repeat(Key::Identifier, nodes, slots) {
+    if let Some(place) = first_repeat(nodes, slots, identifier) {
         return Err(DocumentFault::IdentifierTwice(place));
     }
     if let Some(place) = first_out_of_order(nodes, slots) {
         return Err(DocumentFault::OutOfOrder(place));
     }
-    if let Some(place) = first_repeat(Key::AttributeName, nodes, slots) {
+    if let Some(place) = first_repeat(nodes, slots, attribute_name) {
         return Err(DocumentFault::NameTwice(place));
     }
     if let Some(place) = room_passed(room, nodes) {

@@ -1,4 +1,4 @@
-use Rattle.std.proofs.Common.{take, sym, ◌∙◌, arith}
+use Rattle.std.proofs.Common.{◌+◌, take, sym, ◌∙◌, arith}
 use Rattle.std.proofs.lemmas.List.{at_drop_all}
 use Rattle.document.specs.Table.{order_from}
 use Rattle.nodetable.specs.Scratch.{open_ids}
@@ -7,20 +7,20 @@ use Rattle.nodetable.proofs.order.first_unplaced.Goals as goal
 
 pub returns-in-None : goal.returns-in-None
 returns-in-None c =
-    let open' = c.loop-place.open in
-    sym (order_on (open_ids (take open'.count c.loop-place.slots)) open'.above c.args.nodes.now c.loop-place.place _ _ (omega arith) c.in-None.ensures.standing)
-    ∙ c.loop-place.invariant.1
+    let open' = c.loop-passed.open in
+    sym (order_on (open_ids (take open'.count c.loop-passed.slots)) open'.above c.args.behind_root.now c.loop-passed.passed _ _ _ (omega arith) c.in-None.ensures.standing)
+    ∙ c.loop-passed.invariant.1
 
-pub loop-place-preserved : goal.loop-place-preserved
-loop-place-preserved c =
-    let open' = c.loop-place.open in (
-      omega (arith, c.in-Some.ensures.within, c.loop-place.invariant.0),
-      sym (order_on (open_ids (take open'.count c.loop-place.slots)) open'.above c.args.nodes.now c.loop-place.place _ _ (omega arith) c.in-Some.ensures.standing)
-          ∙ c.loop-place.invariant.1,
+pub loop-passed-preserved : goal.loop-passed-preserved
+loop-passed-preserved c =
+    let open' = c.loop-passed.open in (
+      omega (arith, c.in-Some.ensures.within, c.loop-passed.invariant.0),
+      sym (order_on (open_ids (take open'.count c.loop-passed.slots)) open'.above c.args.behind_root.now c.loop-passed.passed _ _ _ (omega arith) c.in-Some.ensures.standing)
+          ∙ c.loop-passed.invariant.1,
     )
 
 pub returns : goal.returns
 returns c =
-    let open' = c.loop-place.open in
-    sym (at_drop_all (order_from (open_ids (take open'.count c.loop-place.slots)) open'.above c.loop-place.place) c.args.nodes.now c.loop-place.place (omega arith))
-    ∙ c.loop-place.invariant.1
+    let open' = c.loop-passed.open in
+    sym (at_drop_all (order_from (open_ids (take open'.count c.loop-passed.slots)) open'.above (c.loop-passed.passed + 1)) c.args.behind_root.now c.loop-passed.passed (omega arith))
+    ∙ c.loop-passed.invariant.1

@@ -13,7 +13,7 @@ returns c =
     let l : ltb (length bs) 16 ≡ false = le-ltb (length bs) 16 chunk.enough in
     let at : (i : ℕ) → i < 16 → get_or c.in_ok-a.field-0.now i 0 ≡ get_or bs i 0 = λ i h. ap (λ b. get_or b i 0) chunk.same ∙ get_or-take 16 bs i 0 h in
     let four : (i : ℕ) → i + 3 < 16 → four_bytes c.in_ok-a.field-0.now i ≡ four_bytes bs i =
-        λ i h. rw (at i (omega arith), at (i + 1) (omega arith), at (i + 2) (omega arith), at (i + 3) (omega arith)) in
+    λ i h. rw (at i (omega arith), at (i + 1) (omega arith), at (i + 2) (omega arith), at (i + 3) (omega arith)) in
     let two : two_bytes c.in_ok-a.field-0.now 10 ≡ two_bytes bs 10 = rw (at 10 (omega arith), at 11 (omega arith)) in
     let key : c.from_le_bytes.result ≡ four_bytes bs 0 = c.from_le_bytes.ensures ∙ four 0 (omega arith) in
     let link : c.from_le_bytes-2.result ≡ four_bytes bs 4 = c.from_le_bytes-2.ensures ∙ four 4 (omega arith) in
