@@ -1,7 +1,7 @@
 -- Records as bytes, and back.
 use Rattle.std.proofs.Common.{◌≡◌, ℕ, suc, ◌+◌, ◌*◌, ◌/◌, ◌%◌, ◌<◌, ◌≤◌, List, [], ◌∷◌, ◌++◌, length, get_or, take, drop, sym, ap, ◌∙◌, arith}
 use lib.Arith.{digits_div, mod-mul}
-use Rattle.std.proofs.lemmas.List.{drop_more}
+use Rattle.std.proofs.lemmas.List.{drop_more, get_or-take}
 use Rattle.codec.specs.declared.spelling.Record.{Record}
 use Rattle.codec.specs.Codec.{bytes_of_two, bytes_of_four, record_of, bytes_of}
 
@@ -77,3 +77,27 @@ pub record Fits (r : Record) : Type 0 where
 pub record_from : (r : Record) (bs : List ℕ) → Fits r → record_of (bytes_of r ++ bs) ≡ r
 unfolding record_of bytes_of
 record_from r bs f = rw (four_from r.key f.key, four_from r.link f.link, two_from r.name f.name, four_from r.value f.value)
+
+-- the first sixteen bytes are all that is read
+pub record_of_front : (bs : List ℕ) → record_of (take 16 bs) ≡ record_of bs
+unfolding record_of
+record_of_front bs =
+    let at : (i : ℕ) → i < 16 → get_or (take 16 bs) i 0 ≡ get_or bs i 0 = λ i h. get_or-take 16 bs i 0 h in
+    rw (
+      at 0 (omega arith),
+      at 1 (omega arith),
+      at 2 (omega arith),
+      at 3 (omega arith),
+      at 4 (omega arith),
+      at 5 (omega arith),
+      at 6 (omega arith),
+      at 7 (omega arith),
+      at 8 (omega arith),
+      at 9 (omega arith),
+      at 10 (omega arith),
+      at 11 (omega arith),
+      at 12 (omega arith),
+      at 13 (omega arith),
+      at 14 (omega arith),
+      at 15 (omega arith),
+    )

@@ -14,21 +14,30 @@ pub struct Record {
     pub value: u32,
 }
 
-impl Record {
-    // The record that the first sixteen bytes spell.
-    pub fn read(bytes: &[u8]) -> Option<Record>
-        ensures value { result ≡ first_record bytes.now }
-        ensures back { IfSome result (λ x. bytes_of x ≡ take 16 bytes.now) }
-    {
-        let [a, b, c, d, e, f, g, h, tag, spare, i, j, k, l, m, n] = *bytes.first_chunk::<16>()?;
-        Some(Record {
+impl From<[u8; 16]> for Record {
+    ghost from_gives = { λ bytes spelt. spelt ≡ record_of bytes };
+
+    fn from(bytes: [u8; 16]) -> Record {
+        let [a, b, c, d, e, f, g, h, tag, spare, i, j, k, l, m, n] = bytes;
+        Record {
             key: u32::from_le_bytes([a, b, c, d]),
             link: u32::from_le_bytes([e, f, g, h]),
             tag,
             spare,
             name: u16::from_le_bytes([i, j]),
             value: u32::from_le_bytes([k, l, m, n]),
-        })
+        }
+    }
+}
+
+impl Record {
+    // The record that the first sixteen bytes spell.
+    pub fn read(bytes: &[u8]) -> Option<Record>
+        ensures value { result ≡ first_record bytes.now }
+        ensures back { IfSome result (λ x. bytes_of x ≡ take 16 bytes.now) }
+    {
+        let front = bytes.first_chunk()?;
+        Some(Record::from(*front))
     }
 
     pub fn bytes(self) -> [u8; 16]
