@@ -1,7 +1,10 @@
 -- A record and what it spells determine each other.
-use Rattle.std.proofs.Common.{◌≡◌, ℕ, Bool, true, false, eqb, Some, None, Option, sym, refl, arith}
+use Rattle.std.proofs.Common.{◌≡◌, ℕ, Bool, true, false, eqb, Some, None, Ok, Err, Option, Result, sym, refl, ap, ◌∙◌, arith}
+use Rattle.std.specs.Option.{ok_or}
+use Rattle.std.specs.Result.{result_ok}
 use Rattle.std.proofs.lemmas.Bool.{eqb-true}
 use Rattle.std.proofs.lemmas.Bool.Decides.{nat_tests}
+use Rattle.codec.specs.declared.fields.Misformed.{Misformed}
 use Rattle.codec.specs.declared.spelling.Record.{Record}
 use Rattle.records.specs.declared.nodes.Kind.{Kind}
 use Rattle.records.specs.declared.nodes.Kind.TheVariants.{Element, Attribute, Text}
@@ -58,6 +61,23 @@ operation_from o h = rw (code_back o.code, h)
 
 pub some_none : {X : Type 0} (x : X) → Some x ≡ None → ⊥
 some_none {X} x e = let z : ◌≡◌ {A = ℕ} 0 1 = cc in absurd (omega arith)
+
+-- what an answer says of a record: it is spelt, or it is not
+abbrev misformed : Misformed
+misformed = record { }
+
+spelt_part : {X : Type 0} (o : Option X) → result_ok (ok_or o misformed) ≡ o
+spelt_part None = refl
+spelt_part (Some x) = refl
+
+pub spelt_ok : {X : Type 0} (o : Option X) {r : Result X Misformed} {x : X} → r ≡ ok_or o misformed → r ≡ Ok x → o ≡ Some x
+spelt_ok o s k = sym (spelt_part o) ∙ ap result_ok (sym s ∙ k)
+
+pub spelt_err : {X : Type 0} (o : Option X) {r : Result X Misformed} {f : Misformed} → r ≡ ok_or o misformed → r ≡ Err f → o ≡ None
+spelt_err o s k = sym (spelt_part o) ∙ ap result_ok (sym s ∙ k)
+
+pub spelt_some : {X : Type 0} (o : Option X) {r : Result X Misformed} {x : X} → r ≡ ok_or o misformed → o ≡ Some x → r ≡ Ok x
+spelt_some o s k = s ∙ ap (λ q. ok_or q misformed) k
 
 -- a record that spells a node is the record of it
 pub node_back : (r : Record) (n : Node) → node_of r ≡ Some n → record_of_node n ≡ r

@@ -1,9 +1,11 @@
 -- The records of a file, by place, and the file of records.
-use Rattle.std.proofs.Common.{◌≡◌, ℕ, zero, suc, ◌+◌, ◌*◌, ◌/◌, ◌%◌, ◌<◌, ◌≤◌, List, [], ◌∷◌, ◌++◌, length, get_or, take, drop, Some, sym, refl, ap, ◌∙◌, append_assoc, append-nil, arith, length-append, length-drop, le-ltb}
-use Rattle.std.proofs.lemmas.List.{drop-drop, take-append-drop, get_or-drop, nil_from_length, drop_at, take_at, length-take-le}
+use Rattle.std.proofs.Common.{◌≡◌, ℕ, zero, suc, ◌+◌, ◌*◌, ◌/◌, ◌%◌, ◌<◌, ◌≤◌, List, [], ◌∷◌, ◌++◌, length, get_or, map, take, drop, Some, sym, refl, ap, ◌∙◌, append_assoc, append-nil, arith, length-append, length-drop, le-ltb}
+use Rattle.std.proofs.lemmas.List.{drop-drop, take-append-drop, get_or-drop, get_or-map, nil_from_length, drop_at, take_at, length-take-le}
 use Rattle.codec.specs.declared.spelling.Record.{Record}
 use Rattle.codec.specs.Codec.{record_of, bytes_of, first_record}
-use Rattle.codec.proofs.Bytes.{record_back}
+use Rattle.codec.proofs.Bytes.{record_back, record_of_front}
+use lib.ListN.{length-map}
+use Rattle.std.specs.Simd.{first_chunks}
 use Rattle.reader.specs.Bytes.{records_in, records, file_of, over, patched, Spelt}
 
 records_in_at : (n k : ℕ) (bs : List ℕ) (d : Record) → k < n → get_or (records_in n bs) k d ≡ record_of (drop (16 * k) bs)
@@ -110,3 +112,14 @@ file_more table now' next at place done chunk e p h f =
 
 pub file_of_one : (r : Record) → file_of (r ∷ []) ≡ bytes_of r
 file_of_one r = append-nil (bytes_of r)
+
+-- sixteen bytes each, and the records that they spell
+pub chunks_spell : (n : ℕ) (bs : List ℕ) → map record_of (first_chunks 16 n bs) ≡ records_in n bs
+chunks_spell zero bs = refl
+chunks_spell (suc n) bs = rw (record_of_front bs, chunks_spell n (drop 16 bs))
+
+pub raw_at : (raws : List (List ℕ)) (bs : List ℕ) (k : ℕ) (e : List ℕ) (r : Record) → map record_of raws ≡ records bs → k < length bs / 16 → r ≡ record_of (get_or raws k e)
+    → (d : Record) → r ≡ get_or (records bs) k d
+raw_at raws bs k e r same h at d =
+    let long : length raws ≡ length bs / 16 = sym (length-map raws record_of) ∙ ap length same ∙ length_records bs in
+    at ∙ sym (get_or-map record_of raws k e d (omega arith)) ∙ ap (λ rs. get_or rs k d) same

@@ -3,9 +3,10 @@ ghost use Rattle.std.specs.Prelude.{◌≡◌, ◌/◌, ◌≤◌, max, true, le
 ghost use Rattle.reader.specs.Reading.{list_tested};
 ghost use Rattle.reader.specs.Handed.{step_of, seen, place_after};
 
-use crate::bytes::record_at;
+use crate::bytes::raw_records;
 use crate::lists::test_list;
 use crate::reading::is_ill_built;
+use codec::Record;
 use faults::FileFault;
 use records::Operation;
 
@@ -17,15 +18,15 @@ fn operation_at<'a>(
     ensures step { seen result ≡ step_of bytes.now place }
     ensures within { place_after place (seen result) ≤ max place (length bytes.now / 16) }
 {
-    let count = bytes.len() / 16;
-    if place >= count {
+    let raw_records = raw_records(bytes);
+    let Some(raw) = raw_records.get(place) else {
         return Ok(None);
-    }
-    let found = record_at(bytes, place);
-    if is_ill_built(0, found, count - place - 1) {
+    };
+    let found = Record::from(*raw);
+    if is_ill_built(0, found, raw_records.len() - place - 1) {
         return Err(FileFault::Structure(place));
     }
-    let Some(operation) = found.operation() else {
+    let Ok(operation) = Operation::try_from(found) else {
         return Err(FileFault::Misformed(place));
     };
     let from = 16 * place + 16;

@@ -4,7 +4,7 @@ ghost use Rattle.faults.specs.declared.FileFault.TheVariants.{Misformed};
 ghost use Rattle.reader.specs.Bytes.{records, over};
 ghost use Rattle.reader.specs.Reading.{due_after, ill_built, structure_from, spells, misformed_from, operations_in, nodes_in};
 
-use crate::bytes::record_at;
+use crate::bytes::raw_records;
 use codec::Record;
 use faults::FileFault;
 use records::{Kind, Node, Operation};
@@ -24,18 +24,18 @@ fn due_after(due: usize, found: Record) -> usize
 pub fn is_ill_built(due: usize, found: Record, follow: usize) -> bool
     ensures { result ≡ ill_built due found follow }
 {
-    due == 0 && (Kind::from_number(found.tag).is_some() || found.link as usize > follow)
+    due == 0 && (Kind::try_from(found.tag).is_ok() || found.link as usize > follow)
 }
 
 // The first record at which the structure of a list file fails.
 pub fn first_ill_built(bytes: &[u8]) -> Option<usize>
     ensures { result ≡ structure_from 0 0 (records bytes.now) }
 {
-    let count = bytes.len() / 16;
+    let raw_records = raw_records(bytes);
     let mut due = 0;
-    for place in 0..count {
-        let found = record_at(bytes, place);
-        if is_ill_built(due, found, count - place - 1) {
+    for (place, raw) in raw_records.iter().enumerate() {
+        let found = Record::from(*raw);
+        if is_ill_built(due, found, raw_records.len() - place - 1) {
             return Some(place);
         }
         due = due_after(due, found);
@@ -48,9 +48,9 @@ fn spells_due(due: usize, found: Record) -> bool
     ensures { result ≡ spells due found }
 {
     if due == 0 {
-        found.operation().is_some()
+        Operation::try_from(found).is_ok()
     } else {
-        found.node().is_some()
+        Node::try_from(found).is_ok()
     }
 }
 
@@ -59,8 +59,8 @@ pub fn first_misformed(bytes: &[u8], nodes_first: usize) -> Option<usize>
     ensures { result ≡ misformed_from nodes_first 0 (records bytes.now) }
 {
     let mut due = nodes_first;
-    for place in 0..bytes.len() / 16 {
-        let found = record_at(bytes, place);
+    for (place, raw) in raw_records(bytes).iter().enumerate() {
+        let found = Record::from(*raw);
         if !spells_due(due, found) {
             return Some(place);
         }
@@ -76,8 +76,8 @@ pub fn count_operations(bytes: &[u8]) -> usize
 {
     let mut due = 0;
     let mut count = 0;
-    for place in 0..bytes.len() / 16 {
-        let found = record_at(bytes, place);
+    for raw in raw_records(bytes) {
+        let found = Record::from(*raw);
         if due == 0 {
             count += 1;
         }
@@ -97,14 +97,14 @@ pub fn fill(bytes: &[u8], nodes_first: usize, operations: &mut [Operation], node
     let mut due = nodes_first;
     let mut operation_count = 0;
     let mut node_count = 0;
-    for place in 0..bytes.len() / 16 {
-        let found = record_at(bytes, place);
+    for raw in raw_records(bytes) {
+        let found = Record::from(*raw);
         if due == 0 {
-            if let Some(operation) = found.operation() {
+            if let Ok(operation) = Operation::try_from(found) {
                 operations[operation_count] = operation;
                 operation_count += 1;
             }
-        } else if let Some(node) = found.node() {
+        } else if let Ok(node) = Node::try_from(found) {
             nodes[node_count] = node;
             node_count += 1;
         }
