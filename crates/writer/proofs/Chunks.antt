@@ -40,23 +40,21 @@ length_list_records n (o ∷ os) xs c =
     )
 
 -- one operation on, with the nodes that it counts
-module _ (os : List Operation) (xs : List Node) (k used : ℕ) (o : Operation) (h : k < length os) (e : o ≡ get_or os k o) (u : used ≤ length xs)
-    (c : counts_from k (drop k os) (length xs - used) ≡ None) where
+module _ (os : List Operation) (rest : List Node) (k : ℕ) (o : Operation) (h : k < length os) (e : o ≡ get_or os k o)
+    (c : counts_from k (drop k os) (length rest) ≡ None) where
   here : drop k os ≡ o ∷ drop (k + 1) os
   here = drop_more os k o h ∙ ap (λ x. x ∷ drop (k + 1) os) (sym e)
 
-  pub count_within : used + o.count ≤ length xs
-  count_within = omega (arith, (counts_first k o (drop (k + 1) os) (length xs - used) (ap (λ l. counts_from k l (length xs - used)) (sym here) ∙ c)).0)
+  pub count_within : o.count ≤ length rest
+  count_within = (counts_first k o (drop (k + 1) os) (length rest) (ap (λ l. counts_from k l (length rest)) (sym here) ∙ c)).0
 
-  pub counts_on : counts_from (k + 1) (drop (k + 1) os) (length xs - (used + o.count)) ≡ None
+  pub counts_on : counts_from (k + 1) (drop (k + 1) os) (length (drop o.count rest)) ≡ None
   counts_on =
-      let f = counts_first k o (drop (k + 1) os) (length xs - used) (ap (λ l. counts_from k l (length xs - used)) (sym here) ∙ c) in
-      ap (counts_from (k + 1) (drop (k + 1) os)) (omega arith) ∙ f.1
+      let f = counts_first k o (drop (k + 1) os) (length rest) (ap (λ l. counts_from k l (length rest)) (sym here) ∙ c) in
+      ap (counts_from (k + 1) (drop (k + 1) os)) (length-drop o.count rest) ∙ f.1
 
-  pub records_here : list_records (drop k os) (drop used xs) ≡ (record_of_operation o ∷ document_records (take o.count (drop used xs))) ++ list_records (drop (k + 1) os) (drop (used + o.count) xs)
-  records_here =
-      ap (λ l. list_records l (drop used xs)) here
-      ∙ ap (λ l. record_of_operation o ∷ (document_records (take o.count (drop used xs)) ++ list_records (drop (k + 1) os) l)) (drop-drop o.count used xs)
+  pub records_here : list_records (drop k os) rest ≡ (record_of_operation o ∷ document_records (take o.count rest)) ++ list_records (drop (k + 1) os) (drop o.count rest)
+  records_here = ap (λ l. list_records l rest) here
 
-  pub nodes_here : length (document_records (take o.count (drop used xs))) ≡ o.count
-  nodes_here = length-map (take o.count (drop used xs)) record_of_node ∙ length-take-le o.count (drop used xs) (omega (arith, length-drop used xs, count_within))
+  pub nodes_here : length (document_records (take o.count rest)) ≡ o.count
+  nodes_here = length-map (take o.count rest) record_of_node ∙ length-take-le o.count rest count_within

@@ -39,13 +39,13 @@ fn first_misformed_operation(operations: &[Operation], nodes: &[Node]) -> Option
     requires { miscounted_from 0 operations.now nodes.now ≡ None }
     ensures { result ≡ first_operation misformed [] 0 operations.now nodes.now }
 {
-    let mut used = 0;
-    for place in 0..operations.len() {
-        let end = used + operations[place].count as usize;
-        if !is_formed_with(operations[place], &nodes[used..end]) {
+    let mut rest = nodes;
+    for (place, operation) in operations.iter().enumerate() {
+        let (own, behind) = rest.split_at(operation.count as usize);
+        if !is_formed_with(*operation, own) {
             return Some(place);
         }
-        used = end;
+        rest = behind;
     }
     None
 }

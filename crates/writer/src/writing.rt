@@ -27,8 +27,8 @@ pub fn put_nodes(bytes: &mut [u8], place: usize, nodes: &[Node])
     ensures text { bytes.new ≡ patched bytes.old (16 * place) (file_of (document_records nodes.now)) }
     ensures spelt { Spelt (document_records nodes.now) }
 {
-    for k in 0..nodes.len() {
-        put(bytes, place + k, Record::of_node(nodes[k]));
+    for (k, node) in nodes.iter().enumerate() {
+        put(bytes, place + k, Record::from(*node));
     }
 }
 
@@ -38,7 +38,7 @@ fn put_operation(bytes: &mut [u8], place: usize, operation: Operation, nodes: &[
     ensures text { bytes.new ≡ patched bytes.old (16 * place) (file_of (record_of_operation operation ∷ document_records nodes.now)) }
     ensures spelt { Spelt (record_of_operation operation ∷ document_records nodes.now) }
 {
-    put(bytes, place, Record::of_operation(operation));
+    put(bytes, place, Record::from(operation));
     put_nodes(bytes, place + 1, nodes);
 }
 
@@ -50,11 +50,11 @@ pub fn put_list(bytes: &mut [u8], operations: &[Operation], nodes: &[Node])
     ensures spelt { Spelt (list_records operations.now nodes.now) }
 {
     let mut place = 0;
-    let mut used = 0;
-    for k in 0..operations.len() {
-        let count = operations[k].count as usize;
-        put_operation(bytes, place, operations[k], &nodes[used..used + count]);
-        place += 1 + count;
-        used += count;
+    let mut rest = nodes;
+    for operation in operations {
+        let (own, behind) = rest.split_at(operation.count as usize);
+        put_operation(bytes, place, *operation, own);
+        place += 1 + own.len();
+        rest = behind;
     }
 }
