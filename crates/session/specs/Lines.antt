@@ -3,6 +3,7 @@ use Rattle.std.specs.Prelude.{ℕ, List, [], ◌∷◌, ◌++◌, codes, decimal
 use Rattle.records.specs.declared.nodes.Node.{Node}
 use Rattle.records.specs.Formed.{kind_number}
 use Rattle.faults.specs.declared.Report.{Report}
+use Rattle.faults.specs.Shown.{shown}
 use Rattle.document.specs.Tree.{Forest}
 use Rattle.document.specs.Listing.{listing, depths}
 
@@ -11,7 +12,7 @@ ok_line = codes "ok\n"
 
 -- number, layer and place
 abbrev pub refusal_line : Report → List ℕ
-refusal_line r = codes "no " ++ (decimal r.number ++ (codes " " ++ (decimal r.layer ++ (codes " " ++ (decimal r.place ++ codes "\n")))))
+refusal_line r = codes "no " ++ (shown r ++ codes "\n")
 
 -- five numbers in decimals
 abbrev pub five_numbers : ℕ → ℕ → ℕ → ℕ → ℕ → List ℕ

@@ -1,6 +1,6 @@
 // The lines of a session, one public call for each kind.
 ghost use Rattle.std.specs.Prelude.{◌≡◌, IfOk, string_bytes};
-ghost use Rattle.session.specs.Lines.{ok_line, refusal_line, five_numbers, node_line};
+ghost use Rattle.session.specs.Lines.{ok_line, refusal_line, node_line};
 
 use faults::Report;
 use records::Node;
@@ -16,30 +16,19 @@ pub fn ok_line(heap: Global) -> Result<String, AllocError>
 pub fn refusal_line(heap: Global, report: Report) -> Result<String, AllocError>
     ensures { IfOk result (λ s. string_bytes s ≡ refusal_line report) }
 {
-    let Report {
-        number,
-        layer,
-        place,
-    } = report;
-    format!(in heap; "no {number} {layer} {place}\n")
-}
-
-fn five(heap: Global, a: usize, b: u32, c: u8, d: u16, e: u32) -> Result<String, AllocError>
-    ensures { IfOk result (λ s. string_bytes s ≡ five_numbers a b c d e) }
-{
-    format!(in heap; "{a} {b} {c} {d} {e}\n")
+    format!(in heap; "no {report}\n")
 }
 
 // Depth, identifier, kind, name and value of a node.
 pub fn node_line(heap: Global, depth: usize, node: Node) -> Result<String, AllocError>
     ensures { IfOk result (λ s. string_bytes s ≡ node_line depth node) }
 {
-    five(
-        heap,
-        depth,
-        node.id,
-        node.kind.number(),
-        node.name,
-        node.value,
-    )
+    let Node {
+        id,
+        kind,
+        name,
+        value,
+        ..
+    } = node;
+    format!(in heap; "{depth} {id} {} {name} {value}\n", u8::from(kind))
 }

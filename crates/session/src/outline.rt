@@ -11,30 +11,32 @@ use records::{Kind, Node};
 #[derive(Clone, Copy)]
 pub struct Standing {
     pub depth: usize,
-    pub open: usize,
+    pub behind: usize,
 }
 
 // A root, or a node below an element: it closes the elements up to its parent, and opens if it is one itself.
 fn stand_below(node: &Node, count: usize, slots: &mut [Slot]) -> Standing
     requires { count < length slots.old }
     ensures deep { result.depth ≡ length (closed_to node.now.parent (open_ids (take count slots.old))) }
-    ensures behind { open_ids (take result.open slots.new) ≡ opened node.now.kind node.now.id (closed_to node.now.parent (open_ids (take count slots.old))) }
-    ensures within { result.open ≤ count + 1 }
+    ensures behind { open_ids (take result.behind slots.new) ≡ opened node.now.kind node.now.id (closed_to node.now.parent (open_ids (take count slots.old))) }
+    ensures within { result.behind ≤ count + 1 }
 {
     let depth = still_open(node.parent, &slots[..count]);
     match node.kind {
         Kind::Element => {
             slots[depth] = Slot {
                 id: node.id,
-                name: 0,
-                place: 0,
+                ..Slot::EMPTY
             };
             Standing {
                 depth,
-                open: depth + 1,
+                behind: depth + 1,
             }
         }
-        _ => Standing { depth, open: depth },
+        _ => Standing {
+            depth,
+            behind: depth,
+        },
     }
 }
 
@@ -42,13 +44,13 @@ fn stand_below(node: &Node, count: usize, slots: &mut [Slot]) -> Standing
 pub fn stand(node: &Node, count: usize, slots: &mut [Slot]) -> Standing
     requires { count < length slots.old }
     ensures deep { result.depth ≡ length (elements_around (open_ids (take count slots.old)) node.now) }
-    ensures behind { open_ids (take result.open slots.new) ≡ elements_behind (open_ids (take count slots.old)) node.now }
-    ensures within { result.open ≤ count + 1 }
+    ensures behind { open_ids (take result.behind slots.new) ≡ elements_behind (open_ids (take count slots.old)) node.now }
+    ensures within { result.behind ≤ count + 1 }
 {
     match node.kind {
         Kind::Attribute if node.parent > 0 => Standing {
             depth: count,
-            open: count,
+            behind: count,
         },
         _ => stand_below(node, count, slots),
     }

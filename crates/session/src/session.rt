@@ -4,7 +4,7 @@ ghost use Rattle.session.specs.Printed.{most_records, printed};
 
 use crate::text::session_text;
 use nodetable::Slot;
-use records::{Kind, Node};
+use records::Node;
 use std::alloc::{AllocError, Global};
 
 // The longest input, in bytes.
@@ -20,14 +20,7 @@ const MOST_RECORDS: usize = LONGEST / 16;
 fn tables(heap: Global) -> Result<(Vec<Node>, Vec<Slot>), AllocError>
     ensures { IfOk result (λ t. (vec_len t.0 ≡ most_records) × (vec_len t.1 ≡ most_records)) }
 {
-    let blank = Node {
-        id: 0,
-        parent: 0,
-        kind: Kind::Element,
-        name: 0,
-        value: 0,
-    };
-    let nodes = vec![in heap; blank; MOST_RECORDS]?;
+    let nodes = vec![in heap; Node::default(); MOST_RECORDS]?;
     let slots = vec![in heap; Slot::EMPTY; MOST_RECORDS]?;
     Ok((nodes, slots))
 }

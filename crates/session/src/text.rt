@@ -20,7 +20,7 @@ fn document_text(heap: Global, nodes: &[Node], slots: &mut [Slot]) -> Result<Str
     let mut open = 0;
     for node in nodes {
         let standing = stand(node, open, slots);
-        open = standing.open;
+        open = standing.behind;
         let line = node_line(heap, standing.depth, *node)?;
         text.push_str(line.as_str())?;
     }
@@ -40,6 +40,6 @@ pub fn session_text(
 {
     match open(input, nodes, slots) {
         Ok(count) => document_text(heap, &nodes[..count], slots),
-        Err(fault) => refusal_line(heap, fault.report()),
+        Err(fault) => refusal_line(heap, fault.into()),
     }
 }

@@ -1,5 +1,5 @@
 // Nodes, and answers as numbers: 0 where a call was accepted, else the refusal's.
-use faults::StoreFault;
+use faults::{Report, StoreFault};
 use records::{Kind, Node};
 use store::Reading;
 use walk::list;
@@ -37,21 +37,21 @@ pub fn text(id: u32, parent: u32, value: u32) -> Node {
 pub fn number(answer: Result<(), StoreFault>) -> u8 {
     match answer {
         Ok(()) => 0,
-        Err(fault) => fault.report().number,
+        Err(fault) => Report::from(fault).number,
     }
 }
 
 pub fn asked(answer: Result<u32, StoreFault>) -> (u8, u32) {
     match answer {
         Ok(id) => (0, id),
-        Err(fault) => (fault.report().number, 0),
+        Err(fault) => (Report::from(fault).number, 0),
     }
 }
 
 pub fn placed(answer: Result<(u32, u32), StoreFault>) -> (u8, u32, u32) {
     match answer {
         Ok((parent, left)) => (0, parent, left),
-        Err(fault) => (fault.report().number, 0, 0),
+        Err(fault) => (Report::from(fault).number, 0, 0),
     }
 }
 
@@ -59,7 +59,7 @@ pub fn placed(answer: Result<(u32, u32), StoreFault>) -> (u8, u32, u32) {
 pub fn labelled(answer: Result<Node, StoreFault>) -> (u8, u16, u32) {
     match answer {
         Ok(node) => (0, node.name, node.value),
-        Err(fault) => (fault.report().number, 0, 0),
+        Err(fault) => (Report::from(fault).number, 0, 0),
     }
 }
 

@@ -72,7 +72,7 @@ fn refused_sheet(rt: HostRuntime) -> Result<(), Fail> {
     let (sheet, answer) = Sheet::open(&nodes, &mut slots);
     match answer {
         Ok(()) => return Err(Fail::new("accepted")),
-        Err(fault) => assert_eq!(rt; fault.report().number, 4),
+        Err(fault) => assert_eq!(rt; Report::from(fault).number, 4),
     }
     ask_absent(&rt, &sheet, 1);
     Ok(())

@@ -11,4 +11,4 @@ returns-in-Ok c =
 
 pub returns-in-Err : goal.returns-in-Err
 returns-in-Err c =
-    IfOk-weaker c.refusal_line.result _ _ (λ s e. e ∙ ap refusal_line c.report.ensures ∙ prints_refusal c.args.input.now _ c.in-Err.ensures) c.refusal_line.ensures
+    IfOk-weaker c.refusal_line.result _ _ (λ s e. e ∙ ap refusal_line c.into.ensures ∙ prints_refusal c.args.input.now _ c.in-Err.ensures) c.refusal_line.ensures
