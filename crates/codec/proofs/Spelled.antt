@@ -64,7 +64,7 @@ some_none {X} x e = let z : ◌≡◌ {A = ℕ} 0 1 = cc in absurd (omega arith)
 
 -- what an answer says of a record: it is spelt, or it is not
 abbrev misformed : Misformed
-misformed = record { }
+misformed = record {}
 
 spelt_part : {X : Type 0} (o : Option X) → result_ok (ok_or o misformed) ≡ o
 spelt_part None = refl

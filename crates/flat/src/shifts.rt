@@ -4,7 +4,7 @@ ghost use Rattle.flat.specs.Means.{no_row, no_entry, at, entry as entry_at};
 ghost use Rattle.flat.specs.Shifts.{shrunk as shrinks, drawn as draws, lowered as lowers, grown as grows, lifted as lifts, raised as raises, Changed, Closed as HasClosed, Lowered as HasLowered, Opened as HasOpened, Taken, Unlisted, Planted, Enlisted};
 
 use crate::rows::{FlatRow, Spot};
-use ordered::{RowOf, insert_row, remove_row};
+use ordered::{RowOf, insert, remove};
 use records::Node;
 
 // The row at `place`, smaller by one if it counts the row that goes.
@@ -104,7 +104,7 @@ pub fn unlist(index: &mut [RowOf], used: usize, gone: usize)
     ensures { Unlisted index.old used gone index.new }
 {
     let place = lower(index, used, gone);
-    let _ = remove_row(index, used, place);
+    let _ = remove(index, used, place);
 }
 
 // The row at `place`, larger by one if it counts the row `parent`.
@@ -211,5 +211,5 @@ pub fn enlist(index: &mut [RowOf], used: usize, entry: RowOf)
     ensures { Enlisted index.old used entry index.new }
 {
     raise(index, used, entry.row);
-    let _ = insert_row(index, used, entry);
+    let _ = insert(index, used, entry);
 }

@@ -5,7 +5,7 @@ ghost use Rattle.linked.specs.Rows.{with_link, with_record};
 ghost use Rattle.linked.specs.Tables.{Lookup, Shows, RowFound, changed, with_row, without_row, led, linked_in, linked_out};
 
 use crate::row::{Link, Row, Siblings};
-use ordered::{RowOf, insert_row, place_of, remove_row, row_of};
+use ordered::{RowOf, insert, place_of, remove, row_of};
 use records::Node;
 
 // The number of the row of a node.
@@ -57,7 +57,7 @@ pub fn enter(index: &mut [RowOf], rows: &mut [Row], used: usize, row: Row)
     if free < rows.len() {
         rows[free] = row;
     }
-    let _ = insert_row(
+    let _ = insert(
         index,
         used,
         RowOf {
@@ -72,7 +72,7 @@ pub fn leave(index: &mut [RowOf], used: usize, id: u32)
     ensures { (rows : List RowType) (look : Lookup) (w : RowType) → Shows index.old rows used look → look id ≡ Some w → Shows index.new rows (used - 1) (without_row id look) }
 {
     if let Some(at) = place_of(index, used, id) {
-        if let Some(entry) = remove_row(index, used, at) {
+        if let Some(entry) = remove(index, used, at) {
             index[used - 1] = entry;
         }
     }

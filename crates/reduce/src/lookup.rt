@@ -39,7 +39,7 @@ pub struct Lookup<'a> {
 fn is_for(entry: Entry, key: Key) -> bool
     ensures { result ≡ entry_for key.target key.code entry }
 {
-    entry.target == key.target && entry.code == key.code.number()
+    entry.target == key.target && entry.code == u8::from(key.code)
 }
 
 // The place of the first entry of a key, if there is one.
@@ -49,7 +49,7 @@ fn place_of(list: Lookup, key: Key) -> usize
 {
     let probe = Entry {
         target: key.target,
-        code: key.code.number(),
+        code: u8::from(key.code),
         position: 0,
         start: 0,
     };

@@ -3,6 +3,7 @@ use crate::asking::{ask_absent, ask_neighbours, ask_places};
 use crate::building::{build, empty_out, rebuild, relabel};
 use crate::nodes::{attribute, element, text};
 use crate::refusing::{refuse_empty, refuse_full, refuse_others, refuse_put};
+use faults::Report;
 use flat::FlatStore;
 use linked::LinkedStore;
 use nodetable::Slot;

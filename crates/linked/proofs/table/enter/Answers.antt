@@ -23,5 +23,5 @@ returns c look s new room =
     let free : ℕ = (get_or c.args.index.now c.args.used no_entry).row in
     let inside : free < length c.args.rows.now = s.inside c.args.used no_entry room in
     let rows_are : c.if-free-rows.rows ≡ set c.args.rows.now free c.args.row = elim c.if-free-rows.branch [ then-free-rows w ↦ w.rows-is | else-free-rows w ↦ absurd (omega (arith, w.if-free-rows.false)) ] in
-    subst (λ (rs : List Row). Shows c.insert_row.new.table rs (c.args.used + 1) (with_row c.args.row.node.id c.args.row look)) (sym rows_are)
-    (enters c.args.index.now c.insert_row.new.table c.args.rows.now c.args.used c.args.row look c.insert_row.result s new room c.insert_row.ensures.moves c.insert_row.ensures.order)
+    subst (λ (rs : List Row). Shows c.insert.new.table rs (c.args.used + 1) (with_row c.args.row.node.id c.args.row look)) (sym rows_are)
+    (enters c.args.index.now c.insert.new.table c.args.rows.now c.args.used c.args.row look c.insert.result s new room c.insert.ensures.moves c.insert.ensures.order)

@@ -1,6 +1,6 @@
-use Rattle.std.proofs.Common.{◌≡◌, ◌+◌, [], get_or, take, drop, sym, refl, ap, ◌∙◌, arith}
+use Rattle.std.proofs.Common.{[], get_or, sym, refl, ap, ◌∙◌}
 use Rattle.std.proofs.lemmas.List.{at_drop_all}
-use Rattle.writer.specs.Scans.{counts_from, formed_with, misformed_list_from}
+use Rattle.writer.specs.Scans.{formed_with, misformed_list_from}
 use Rattle.writer.proofs.Chunks.{blank, turn, count_within, counts_on}
 use Rattle.writer.proofs.Formed.{counted_as, formed_as, misformed_here, misformed_past}
 use Rattle.writer.proofs.tables.first_misformed_operation.Goals as goal

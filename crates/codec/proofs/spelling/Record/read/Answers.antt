@@ -1,4 +1,4 @@
-use Rattle.std.proofs.Common.{◌≡◌, take, false, ltb, length, ap, ◌∙◌, arith, le-ltb}
+use Rattle.std.proofs.Common.{◌≡◌, false, ltb, length, ap, ◌∙◌, arith, le-ltb}
 use Rattle.codec.specs.Codec.{record_of, bytes_of}
 use Rattle.codec.proofs.Bytes.{record_back, record_of_front}
 use Rattle.codec.proofs.spelling.Record.read.Goals as goal
