@@ -7,27 +7,14 @@ use faults::StoreFault;
 use records::{Kind, Node};
 use store::Writing;
 
-// Whether a row is a child of `parent`.
-fn is_child(row: Node, parent: u32) -> bool
-    ensures { result ≡ child_row parent row }
-{
-    match row.kind {
-        Kind::Attribute => false,
-        _ => row.parent == parent,
-    }
-}
-
 // The last child of `parent` among the rows, or else `left`.
 fn last_child(rows: &[Node], parent: u32, left: u32) -> u32
     ensures { result ≡ last_from (child_row parent) left rows.now }
 {
-    let mut last = left;
-    for place in 0..rows.len() {
-        if is_child(rows[place], parent) {
-            last = rows[place].id;
-        }
-    }
-    last
+    rows.iter()
+        .rev()
+        .find(|row| row.parent == parent && row.kind != Kind::Attribute)
+        .map_or(left, |row| row.id)
 }
 
 // Behind which node a row comes, after the rows before it.
@@ -62,9 +49,9 @@ pub fn plant<S: Writing>(
     ensures leaves { S.Reading.forest store.new ≡ plant_leaves (S.Reading.limit store.old) parent left [] rows.now (S.Reading.forest store.old) }
     ensures room { S.Reading.limit store.new ≡ S.Reading.limit store.old }
 {
-    for place in 0..rows.len() {
-        let behind = left_of(&rows[0..place], left, rows[place]);
-        store.put(placed(parent, rows[place]), behind)?;
+    for (place, row) in rows.iter().enumerate() {
+        let behind = left_of(&rows[..place], left, *row);
+        store.put(placed(parent, *row), behind)?;
     }
     Ok(())
 }

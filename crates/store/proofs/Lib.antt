@@ -14,3 +14,4 @@ pub mod Facts
 pub mod Telling
 pub mod Standing
 pub mod Relinking
+pub mod Finding
