@@ -1,4 +1,3 @@
-pub mod Rowing
 pub mod Contexts
 pub mod Growing
 pub mod Loading
