@@ -1,2 +1,1 @@
-pub mod Scanning
 pub mod Showing

@@ -4,7 +4,9 @@ use mathlib.Core.List.{is_set}
 use mathlib.Core.Logic.{∥∥₁_elim}
 use native.Mathlib.Bridge.{le_prop}
 use base.Stored.{Coded-set}
-use Rattle.std.proofs.lemmas.Bool.{eq-eqb}
+use Rattle.std.proofs.lemmas.Bool.{eq-eqb, ltb-true, ltb-false}
+use Rattle.std.specs.List.{position as place_where}
+use Rattle.std.specs.Option.{ok_or}
 use Rattle.records.specs.contracts.nodes.Node.{the_row}
 use Rattle.records.specs.declared.nodes.Node.{Node}
 use Rattle.faults.specs.declared.DocumentFault.{DocumentFault}
@@ -17,13 +19,14 @@ use Rattle.document.proofs.Passing.{passing_lists_document}
 use Rattle.store.specs.Listed.{position, row_with, found, first_where, child_row, attribute_row, Shown}
 use Rattle.store.specs.Views.{View, view, asked, first_of}
 use Rattle.store.proofs.Facts.{kept_prop}
+use Rattle.store.proofs.Finding.{position_counted}
 use Rattle.store.proofs.Formed.{well_formed_is_kept}
 use Rattle.store.proofs.Neighbours.{neighbours_are_listed, size_and_root_are_listed}
 use Rattle.store.proofs.Questions.{record_is_listed}
 use Rattle.sheet.specs.declared.scan.Below.TheVariants.{Children, Attributes}
 use Rattle.sheet.specs.Below.{no_node, next_of, left_before}
 use Rattle.nodetable.specs.Tested.{tested}
-use Rattle.sheet.specs.Sheets.{Lists, view_at, document_if}
+use Rattle.sheet.specs.Sheets.{Lists, Found, view_at, document_if}
 
 -- that a table lists a document is a fact
 lists_prop : (xs : List Node) → IsProp (Lists xs)
@@ -104,6 +107,14 @@ module _ (xs : List Node) (h : Lists xs) (t : ℕ) where
       let following = n.next_attribute ∙ own_attribute v.row _ ∙ ap (next_of Attributes (position t xs) xs) r.2 in
       let left = n.left ∙ own_child v.row _ ∙ ap (left_before (position t xs) xs) r.2 in
       at ∙ ap Some (λ i. record { row = x i; left = left i; first_child = child i; next_sibling = next i; first_attribute = attribute i; next_attribute = following i })
+
+  -- the place that a search by the identifier answers
+  pub found_at : Found xs t (ok_or (place_where (λ x. eqb x.id t) xs) Absent)
+  found_at = rw (position_counted t xs) (go (ltb (position t xs) (length xs)) refl)
+    where
+      go : (b : Bool) → ltb (position t xs) (length xs) ≡ b → Found xs t (ok_or (cond b (Some (position t xs)) None) Absent)
+      go true e = (ltb-true _ _ e, seen_at (ltb-true _ _ e))
+      go false e = (refl, unlisted (ltb-false _ _ e))
 
 -- the table of a document
 pub rows_counted : (xs : List Node) → Lists xs → length xs ≡ size (document_of xs)

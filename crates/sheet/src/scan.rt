@@ -1,6 +1,6 @@
 // Rows of a table that stand below one node.
 ghost use Rattle.std.specs.Prelude.{◌≡◌, ◌<◌, length};
-ghost use Rattle.store.specs.Listed.{position as place_of, first_where, last_where};
+ghost use Rattle.store.specs.Listed.{first_where, last_where};
 ghost use Rattle.sheet.specs.Below.{below_row, next_behind, left_of};
 
 use records::{Kind, Node};
@@ -14,53 +14,30 @@ pub enum Below {
 
 impl Below {
     // Whether a row is one of those below `parent`.
-    fn has(self, parent: u32, row: Node) -> bool
-        ensures { result ≡ below_row self parent row }
+    fn has(self, parent: u32, row: &Node) -> bool
+        ensures { result ≡ below_row self parent row.now }
     {
-        match (self, row.kind) {
-            (Below::Children, Kind::Attribute) => false,
-            (Below::Children, _) => row.parent == parent,
-            (Below::Attributes, Kind::Attribute) => row.parent == parent,
-            (Below::Attributes, _) => false,
+        match self {
+            Below::Children => row.parent == parent && row.kind != Kind::Attribute,
+            Below::Attributes => row.parent == parent && row.kind == Kind::Attribute,
         }
     }
-}
-
-// The place of the node with an identifier; the number of nodes where there is none.
-pub fn position(nodes: &[Node], id: u32) -> usize
-    ensures { result ≡ place_of id nodes.now }
-{
-    for place in 0..nodes.len() {
-        if nodes[place].id == id {
-            return place;
-        }
-    }
-    nodes.len()
 }
 
 // The first of the nodes below `parent`, 0 for none.
 pub fn first_of(nodes: &[Node], below: Below, parent: u32) -> u32
     ensures { result ≡ first_where (below_row below parent) nodes.now }
 {
-    for place in 0..nodes.len() {
-        if below.has(parent, nodes[place]) {
-            return nodes[place].id;
-        }
-    }
-    0
+    let first = nodes.iter().find(|node| below.has(parent, node));
+    first.map_or(0, |node| node.id)
 }
 
 // The last of the nodes below `parent`, 0 for none.
 pub fn last_of(nodes: &[Node], below: Below, parent: u32) -> u32
     ensures { result ≡ last_where (below_row below parent) nodes.now }
 {
-    let mut last = 0;
-    for place in 0..nodes.len() {
-        if below.has(parent, nodes[place]) {
-            last = nodes[place].id;
-        }
-    }
-    last
+    let last = nodes.iter().rev().find(|node| below.has(parent, node));
+    last.map_or(0, |node| node.id)
 }
 
 // The one behind the node at a place among the nodes below its parent, 0 for none and where the node is none of these.
@@ -69,7 +46,7 @@ pub fn next_behind(nodes: &[Node], place: usize, below: Below) -> u32
     ensures { result ≡ next_behind below place nodes.now }
 {
     let node = nodes[place];
-    if below.has(node.parent, node) {
+    if below.has(node.parent, &node) {
         first_of(&nodes[place + 1..], below, node.parent)
     } else {
         0
@@ -82,9 +59,9 @@ pub fn left_of(nodes: &[Node], place: usize) -> u32
     ensures { result ≡ left_of place nodes.now }
 {
     let node = nodes[place];
-    if Below::Children.has(node.parent, node) {
-        last_of(&nodes[0..place], Below::Children, node.parent)
-    } else {
+    if node.kind == Kind::Attribute {
         0
+    } else {
+        last_of(&nodes[..place], Below::Children, node.parent)
     }
 }

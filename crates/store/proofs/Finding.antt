@@ -1,12 +1,12 @@
 -- What the library's searches find, in the words of the listing.
-use Rattle.std.proofs.Common.{◌≡◌, ℕ, Bool, true, false, cond, List, [], ◌∷◌, Some, None, Option, Bor, refl, ap, sym, ◌∙◌}
+use Rattle.std.proofs.Common.{◌≡◌, ℕ, ◌+◌, Bool, true, false, cond, not, eqb, List, [], ◌∷◌, Some, None, Option, Bor, refl, ap, sym, ◌∙◌}
 use Rattle.std.proofs.lemmas.List.Folds.{find-append}
 use Rattle.std.proofs.lemmas.Grind.{reverse_onto}
 use mathlib.Core.List.{reverse}
-use Rattle.std.specs.List.{find}
+use Rattle.std.specs.List.{find, position_or_len}
 use Rattle.std.specs.Option.{MatchOption, option_map, option_or}
 use Rattle.records.specs.declared.nodes.Node.{Node}
-use Rattle.store.specs.Listed.{first_where, last_from}
+use Rattle.store.specs.Listed.{position, first_where, last_from}
 
 -- the identifier of the row that was found, or else l
 abbrev pub id_or : ℕ → Option Node → ℕ
@@ -41,3 +41,11 @@ first_answered q xs o r e h = id_of_found o 0 r h ∙ ap (id_or 0) e ∙ first_f
 
 pub last_answered : (q : Node → Bool) (l : ℕ) (xs : List Node) (o : Option (Bor Node)) (r : ℕ) → option_map (λ y. y.now) o ≡ find q (reverse xs) → MatchOption o (r ≡ l) (λ x. r ≡ x.now.id) → r ≡ last_from q l xs
 last_answered q l xs o r e h = id_of_found o l r h ∙ ap (id_or l) e ∙ last_found q l xs
+
+pub position_counted : (t : ℕ) (xs : List Node) → position_or_len (λ x. eqb x.id t) xs ≡ position t xs
+position_counted t [] = refl
+position_counted t (x ∷ xs) = go (eqb x.id t) (position_counted t xs)
+  where
+    go : (b : Bool) → position_or_len (λ x. eqb x.id t) xs ≡ position t xs → cond (not b) (1 + position_or_len (λ x. eqb x.id t) xs) 0 ≡ cond b 0 (1 + position t xs)
+    go true h = refl
+    go false h = ap (λ (n : ℕ). 1 + n) h

@@ -7,7 +7,7 @@ ghost use Rattle.sheet.specs.Sheets.{Found};
 
 use super::Sheet;
 use super::opening::ROOM;
-use crate::scan::{Below, first_of, left_of, next_behind, position};
+use crate::scan::{Below, first_of, left_of, next_behind};
 use faults::StoreFault;
 use records::Node;
 use store::Reading;
@@ -22,23 +22,15 @@ impl<'a> Sheet<'a> {
     fn top(&self) -> u32
         ensures { result ≡ first_of (document self.now) }
     {
-        if self.nodes.len() == 0 {
-            0
-        } else {
-            self.nodes[0].id
-        }
+        self.nodes.first().map_or(0, |node| node.id)
     }
 
     // The place of a node in the table.
     fn find(&self, id: u32) -> Result<usize, StoreFault>
         ensures { Found self.now.nodes.now id result }
     {
-        let place = position(self.nodes, id);
-        if place < self.nodes.len() {
-            Ok(place)
-        } else {
-            Err(StoreFault::Absent)
-        }
+        let place = self.nodes.iter().position(|node| node.id == id);
+        place.ok_or(StoreFault::Absent)
     }
 }
 

@@ -1,17 +1,13 @@
-use Rattle.std.proofs.Common.{sym, ◌∙◌, arith}
-use Rattle.std.proofs.lemmas.List.{at_drop_all}
-use Rattle.store.specs.Listed.{first_where}
+use Rattle.std.proofs.Common.{rules}
+use borrow.Author.Tests.{tests}
+use Rattle.std.proofs.lemmas.Iterator.{YieldsList-from_slice}
+use Rattle.std.proofs.lemmas.Iterator.Search.{find_from_yields_List}
+use Rattle.store.proofs.Finding.{first_answered}
 use Rattle.sheet.specs.Below.{below_row}
-use Rattle.sheet.proofs.Scanning.{first_here, first_on}
 use Rattle.sheet.proofs.scan.first_of.Goals as goal
 
-pub returns-then-has : goal.returns-then-has
-returns-then-has c =
-    sym (first_here c.args.nodes.now c.loop-place.place _ (omega arith) (below_row c.args.below c.args.parent) (sym c.has.ensures ∙ c.if-has.true)) ∙ c.loop-place.invariant
-
-pub loop-place-preserved : goal.loop-place-preserved
-loop-place-preserved c =
-    sym (first_on c.args.nodes.now c.loop-place.place _ (omega arith) (below_row c.args.below c.args.parent) (sym c.has.ensures ∙ c.if-has.false)) ∙ c.loop-place.invariant
-
 pub returns : goal.returns
-returns c = sym (at_drop_all (first_where (below_row c.args.below c.args.parent)) c.args.nodes.now c.loop-place.place (omega arith)) ∙ c.loop-place.invariant
+returns c =
+    first_answered (below_row c.args.below c.args.parent) c.args.nodes.now c.find-first.result c.map_or.result
+    (find_from_yields_List (below_row c.args.below c.args.parent) _ _ c.find-first.result c.find-first.ensures.ran (YieldsList-from_slice c.args.nodes.now (search rules)) (λ x b q k. search (rules, tests)))
+    (search rules)

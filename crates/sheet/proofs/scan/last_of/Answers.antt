@@ -1,16 +1,13 @@
-use Rattle.std.proofs.Common.{sym, ◌∙◌, arith}
-use Rattle.std.proofs.lemmas.List.{at_drop_all}
-use Rattle.std.proofs.lemmas.Bool.{cond-true, cond-false}
-use Rattle.store.specs.Listed.{last_from}
+use Rattle.std.proofs.Common.{rules}
+use borrow.Author.Tests.{tests}
+use Rattle.std.proofs.lemmas.Iterator.Adapters.{YieldsList-from_rev_slice}
+use Rattle.std.proofs.lemmas.Iterator.Search.{find_from_yields_List}
+use Rattle.store.proofs.Finding.{last_answered}
 use Rattle.sheet.specs.Below.{below_row}
-use Rattle.sheet.proofs.Scanning.{last_on}
 use Rattle.sheet.proofs.scan.last_of.Goals as goal
-use Rattle.sheet.proofs.scan.last_of.Goals.{then-has, else-has}
-
-pub loop-place-preserved : goal.loop-place-preserved
-loop-place-preserved c =
-    last_on c.args.nodes.now c.loop-place.place _ (omega arith) (below_row c.args.below c.args.parent) c.loop-place.last c.if-has.last
-    (elim c.if-has.branch [ then-has w ↦ w.last-is ∙ sym (cond-true _ _ _ (sym c.has.ensures ∙ w.if-has.true)) | else-has w ↦ w.last-is ∙ sym (cond-false _ _ _ (sym c.has.ensures ∙ w.if-has.false)) ]) ∙ c.loop-place.invariant
 
 pub returns : goal.returns
-returns c = sym (at_drop_all (last_from (below_row c.args.below c.args.parent) c.loop-place.last) c.args.nodes.now c.loop-place.place (omega arith)) ∙ c.loop-place.invariant
+returns c =
+    last_answered (below_row c.args.below c.args.parent) 0 c.args.nodes.now c.find-last.result c.map_or.result
+    (find_from_yields_List (below_row c.args.below c.args.parent) _ _ c.find-last.result c.find-last.ensures.ran (YieldsList-from_rev_slice c.args.nodes.now (search rules)) (λ x b q k. search (rules, tests)))
+    (search rules)

@@ -1,17 +1,16 @@
-use Rattle.std.proofs.Common.{◌≡◌, ℕ, ◌<◌, ◌≤◌, length, Some, sym, refl, subst}
-use Rattle.document.specs.Table.{document_of}
-use Rattle.store.specs.Views.{view}
-use Rattle.sheet.specs.Sheets.{view_at}
-use Rattle.sheet.proofs.Showing.{lists, seen_at, unlisted}
+use Rattle.std.proofs.Common.{rules, eqb, sym, ap, subst, ◌∙◌}
+use borrow.Author.Tests.{tests}
+use Rattle.std.proofs.lemmas.Iterator.{YieldsList-from_slice}
+use Rattle.std.proofs.lemmas.Iterator.Search.{position_from_yields_List}
+use Rattle.std.specs.Option.{ok_or}
+use Rattle.faults.specs.declared.StoreFault.TheVariants.{Absent}
+use Rattle.sheet.specs.Sheets.{Found}
+use Rattle.sheet.proofs.Showing.{lists, found_at}
 use Rattle.sheet.proofs.sheet.Sheet.find.Goals as goal
 
-pub returns-then-place-self : goal.returns-then-place-self
-returns-then-place-self c =
+pub returns : goal.returns
+returns c =
     let xs = c.args.self.now.nodes.now in
-    let e = c.position-place.ensures in
-    (c.if-place-self.true, subst (λ (i : ℕ). view (document_of xs) c.args.id ≡ Some (view_at xs c.args.id i)) (sym e) (seen_at xs (lists xs c.args.self.now.listed) c.args.id (subst (λ (i : ℕ). i < length xs) e c.if-place-self.true)))
-
-pub returns-else-place-self : goal.returns-else-place-self
-returns-else-place-self c =
-    let xs = c.args.self.now.nodes.now in
-    (refl, unlisted xs (lists xs c.args.self.now.listed) c.args.id (subst (λ (i : ℕ). length xs ≤ i) c.position-place.ensures c.if-place-self.false))
+    let t = c.args.id in
+    let p = position_from_yields_List (λ x. eqb x.id t) _ _ c.position-place.result c.position-place.ensures.ran (YieldsList-from_slice xs (search rules)) (λ x b q k. search (rules, tests)) in
+    subst (Found xs t) (sym (c.ok_or.ensures.value ∙ ap (λ o. ok_or o Absent) p)) (found_at xs (lists xs c.args.self.now.listed) t)
