@@ -1,5 +1,5 @@
 -- What a table that lists a document shows of its nodes.
-use Rattle.std.proofs.Common.{◌≡◌, ℕ, ◌+◌, ◌<◌, ◌≤◌, Bool, true, false, cond, not, ◌&&◌, eqb, ltb, List, [], ◌∷◌, length, get_or, Some, None, Ok, Err, Option, Result, sym, refl, ap, ◌∙◌, subst, one-add, arith}
+use Rattle.std.proofs.Common.{◌≡◌, ℕ, ◌+◌, ◌<◌, ◌≤◌, Bool, true, false, cond, not, ◌&&◌, eqb, ltb, List, [], ◌∷◌, length, get_or, Some, None, Ok, Err, Option, sym, refl, ap, ◌∙◌, subst, one-add, arith}
 use mathlib.Core.List.{is_set}
 use mathlib.Core.Logic.{∥∥₁_elim}
 use native.Mathlib.Bridge.{le_prop}
@@ -9,10 +9,9 @@ use Rattle.std.specs.List.{position as place_where}
 use Rattle.std.specs.Option.{ok_or}
 use Rattle.records.specs.contracts.nodes.Node.{the_row}
 use Rattle.records.specs.declared.nodes.Node.{Node}
-use Rattle.faults.specs.declared.DocumentFault.{DocumentFault}
 use Rattle.faults.specs.declared.DocumentFault.TheVariants.{ScratchShort}
 use Rattle.faults.specs.declared.StoreFault.TheVariants.{Absent}
-use Rattle.document.specs.Tree.{size}
+use Rattle.document.specs.Tree.{nil, size}
 use Rattle.document.specs.Listing.{listing}
 use Rattle.document.specs.Table.{is_attribute, document_of, table_test}
 use Rattle.document.proofs.Passing.{passing_lists_document}
@@ -26,7 +25,7 @@ use Rattle.store.proofs.Questions.{record_is_listed}
 use Rattle.sheet.specs.declared.scan.Below.TheVariants.{Children, Attributes}
 use Rattle.sheet.specs.Below.{no_node, next_of, left_before}
 use Rattle.nodetable.specs.Tested.{tested}
-use Rattle.sheet.specs.Sheets.{Lists, Found, view_at, document_if}
+use Rattle.sheet.specs.Sheets.{Lists, Found, view_at}
 
 -- that a table lists a document is a fact
 lists_prop : (xs : List Node) → IsProp (Lists xs)
@@ -124,6 +123,10 @@ pub root_listed : (xs : List Node) → Lists xs → first_of (document_of xs) �
 root_listed xs h = (size_and_root_are_listed (document_of xs)).1 ∙ ap (first_where (λ x. true)) h.listed
 
 -- an empty table, and one that passed the tests
+pub none_means : document_of [] ≡ nil
+unfolding document_of
+none_means = refl
+
 pub none_listed : Lists []
 unfolding document_of listing
 none_listed = record { kept = record { root = tt; shaped = tt; distinct = λ t. omega arith }; listed = refl; within = omega arith }
@@ -137,8 +140,3 @@ passed_tests n xs e = go (ltb n (length xs)) e
     go : (b : Bool) → cond b (Err ScratchShort) (table_test 1000 xs) ≡ Ok tt → Lists xs
     go true e = let z : ◌≡◌ {A = ℕ} 0 1 = cc in absurd (omega arith)
     go false e = passed_listed xs e
-
--- a refused table means nothing
-pub none_means : (n : ℕ) (xs : List Node) (e : DocumentFault) → tested n 1000 xs ≡ Err e → document_of [] ≡ document_if (tested n 1000 xs) xs
-unfolding document_of
-none_means n xs e h = ap (λ (r : Result (Unit {0}) DocumentFault). document_if r xs) (sym h)

@@ -47,7 +47,7 @@ fn flat_store(rt: HostRuntime) -> Result<(), Fail> {
 }
 
 #[test]
-fn sheet(rt: HostRuntime) {
+fn sheet(rt: HostRuntime) -> Result<(), Fail> {
     let nodes = [
         element(1, 0, 10),
         attribute(2, 1, 20, 7),
@@ -57,24 +57,25 @@ fn sheet(rt: HostRuntime) {
         element(6, 1, 12),
     ];
     let mut slots = [Slot::EMPTY; 6];
-    let (sheet, answer) = Sheet::open(&nodes, &mut slots);
-    assert!(rt; answer.is_ok());
+    let Ok(sheet) = Sheet::open(&nodes, &mut slots) else {
+        return Err(Fail::new("refused"));
+    };
     ask_neighbours(&rt, &sheet);
     ask_places(&rt, &sheet);
     ask_absent(&rt, &sheet, 0);
     ask_absent(&rt, &sheet, 7);
+    Ok(())
 }
 
-// A table that is refused makes a sheet without nodes.
+// A table that is refused makes no sheet; the empty sheet has no nodes.
 #[test]
 fn refused_sheet(rt: HostRuntime) -> Result<(), Fail> {
     let nodes = [element(1, 0, 10), element(1, 1, 11)];
     let mut slots = [Slot::EMPTY; 2];
-    let (sheet, answer) = Sheet::open(&nodes, &mut slots);
-    match answer {
-        Ok(()) => return Err(Fail::new("accepted")),
+    match Sheet::open(&nodes, &mut slots) {
+        Ok(_) => return Err(Fail::new("accepted")),
         Err(fault) => assert_eq!(rt; Report::from(fault).number, 4),
     }
-    ask_absent(&rt, &sheet, 1);
+    ask_absent(&rt, &Sheet::empty(), 1);
     Ok(())
 }
