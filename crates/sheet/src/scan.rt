@@ -1,11 +1,11 @@
 // Rows of a table that stand below one node.
 ghost use Rattle.std.specs.Prelude.{◌≡◌, ◌<◌, length};
-ghost use Rattle.store.specs.Listed.{first_where, last_where};
+ghost use Rattle.store.specs.Listed.{child_row, first_where, last_where};
 ghost use Rattle.sheet.specs.Below.{below_row, next_behind, left_of};
 
 use records::{Kind, Node};
 
-// Which of the nodes below one are meant.
+// Which of the nodes below one are meant; an enum and no closure, so that contracts can name the test.
 #[derive(Clone, Copy)]
 pub enum Below {
     Children,
@@ -32,11 +32,14 @@ pub fn first_of(nodes: &[Node], below: Below, parent: u32) -> u32
     first.map_or(0, |node| node.id)
 }
 
-// The last of the nodes below `parent`, 0 for none.
-pub fn last_of(nodes: &[Node], below: Below, parent: u32) -> u32
-    ensures { result ≡ last_where (below_row below parent) nodes.now }
+// The last child of `parent`, 0 for none.
+fn last_child(nodes: &[Node], parent: u32) -> u32
+    ensures { result ≡ last_where (child_row parent) nodes.now }
 {
-    let last = nodes.iter().rev().find(|node| below.has(parent, node));
+    let last = nodes
+        .iter()
+        .rev()
+        .find(|node| Below::Children.has(parent, node));
     last.map_or(0, |node| node.id)
 }
 
@@ -62,6 +65,6 @@ pub fn left_of(nodes: &[Node], place: usize) -> u32
     if node.kind == Kind::Attribute {
         0
     } else {
-        last_of(&nodes[..place], Below::Children, node.parent)
+        last_child(&nodes[..place], node.parent)
     }
 }

@@ -1,7 +1,4 @@
 // Questions, answered by scanning the table.
-ghost use Rattle.std.specs.Prelude.{◌≡◌};
-ghost use Rattle.document.specs.Tree.{size};
-ghost use Rattle.store.specs.Views.{first_of};
 ghost use Rattle.sheet.specs.Document.{document};
 ghost use Rattle.sheet.specs.Sheets.{Found};
 
@@ -13,18 +10,6 @@ use records::Node;
 use store::Reading;
 
 impl<'a> Sheet<'a> {
-    fn count(&self) -> usize
-        ensures { result ≡ size (document self.now) }
-    {
-        self.nodes.len()
-    }
-
-    fn top(&self) -> u32
-        ensures { result ≡ first_of (document self.now) }
-    {
-        self.nodes.first().map_or(0, |node| node.id)
-    }
-
     // The place of a node in the table.
     fn find(&self, id: u32) -> Result<usize, StoreFault>
         ensures { Found self.now.nodes.now id result }
@@ -46,11 +31,11 @@ impl<'a> Reading for Sheet<'a> {
     }
 
     fn len(&self) -> usize {
-        self.count()
+        self.nodes.len()
     }
 
     fn root(&self) -> u32 {
-        self.top()
+        self.nodes.first().map_or(0, |node| node.id)
     }
 
     fn node(&self, id: u32) -> Result<Node, StoreFault> {
@@ -59,7 +44,7 @@ impl<'a> Reading for Sheet<'a> {
     }
 
     fn first_child(&self, id: u32) -> Result<u32, StoreFault> {
-        let _ = self.find(id)?;
+        self.find(id)?;
         Ok(first_of(self.nodes, Below::Children, id))
     }
 
@@ -69,7 +54,7 @@ impl<'a> Reading for Sheet<'a> {
     }
 
     fn first_attribute(&self, id: u32) -> Result<u32, StoreFault> {
-        let _ = self.find(id)?;
+        self.find(id)?;
         Ok(first_of(self.nodes, Below::Attributes, id))
     }
 

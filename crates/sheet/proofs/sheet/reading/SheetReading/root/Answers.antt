@@ -3,7 +3,7 @@ use Rattle.std.specs.List.{slice_get, find}
 use Rattle.records.specs.declared.nodes.Node.{Node}
 use Rattle.store.proofs.Finding.{first_answered}
 use Rattle.sheet.proofs.Showing.{lists, root_listed}
-use Rattle.sheet.proofs.sheet.Sheet.top.Goals as goal
+use Rattle.sheet.proofs.sheet.reading.SheetReading.root.Goals as goal
 
 first_is_found : (xs : List Node) → slice_get xs 0 ≡ find (λ x. true) xs
 first_is_found [] = refl
