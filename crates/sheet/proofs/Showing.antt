@@ -5,7 +5,8 @@ use mathlib.Core.Logic.{∥∥₁_elim}
 use native.Mathlib.Bridge.{le_prop}
 use base.Stored.{Coded-set}
 use Rattle.std.proofs.lemmas.Bool.{eq-eqb, ltb-true, ltb-false}
-use Rattle.std.specs.List.{position as place_where}
+use Rattle.std.proofs.lemmas.Option.{slice_get_past, slice_get-get_or}
+use Rattle.std.specs.List.{slice_get, position as place_where}
 use Rattle.std.specs.Option.{ok_or}
 use Rattle.records.specs.contracts.nodes.Node.{the_row}
 use Rattle.records.specs.declared.nodes.Node.{Node}
@@ -39,32 +40,20 @@ pub lists : (xs : List Node) → ∥ Lists xs ∥₁ → Lists xs
 lists xs t = ∥∥₁_elim t (lists_prop xs) (λ h. h)
 
 -- the first row with an identifier stands at its position
-row_there : (t : ℕ) (xs : List Node) (x : Node) → position t xs < length xs → row_with t xs ≡ Some (get_or xs (position t xs) x)
-row_there t [] x h = absurd (omega arith)
-row_there t (y ∷ ys) x h = go (eqb y.id t) h (row_there t ys x)
+row_at : (t : ℕ) (xs : List Node) → row_with t xs ≡ slice_get xs (position t xs)
+row_at t [] = refl
+row_at t (y ∷ ys) = go (eqb y.id t) (row_at t ys)
   where
-    go : (b : Bool) → cond b 0 (1 + position t ys) < length (y ∷ ys) → (position t ys < length ys → row_with t ys ≡ Some (get_or ys (position t ys) x))
-        → cond b (Some y) (row_with t ys) ≡ Some (get_or (y ∷ ys) (cond b 0 (1 + position t ys)) x)
-    go true h ih = refl
-    go false h ih = ih (omega arith) ∙ ap Some (sym (later (position t ys)))
-      where
-        later : (i : ℕ) → get_or (y ∷ ys) (1 + i) x ≡ get_or ys i x
-        later i = rw one-add
-
-row_nowhere : (t : ℕ) (xs : List Node) → length xs ≤ position t xs → row_with t xs ≡ None
-row_nowhere t [] h = refl
-row_nowhere t (y ∷ ys) h = go (eqb y.id t) h (row_nowhere t ys)
-  where
-    go : (b : Bool) → length (y ∷ ys) ≤ cond b 0 (1 + position t ys) → (length ys ≤ position t ys → row_with t ys ≡ None) → cond b (Some y) (row_with t ys) ≡ None
-    go true h ih = absurd (omega arith)
-    go false h ih = ih (omega arith)
+    go : (b : Bool) → row_with t ys ≡ slice_get ys (position t ys) → cond b (Some y) (row_with t ys) ≡ slice_get (y ∷ ys) (cond b 0 (1 + position t ys))
+    go true ih = refl
+    go false ih = rw one-add ih
 
 module _ (xs : List Node) (h : Lists xs) (t : ℕ) where
   record_said : asked (λ v. v.row) (view (document_of xs) t) ≡ found (row_with t xs)
   record_said = record_is_listed (document_of xs) t ∙ ap (λ (ys : List Node). found (row_with t ys)) h.listed
 
   pub unlisted : length xs ≤ position t xs → view (document_of xs) t ≡ None
-  unlisted l = go (view (document_of xs) t) (record_said ∙ ap found (row_nowhere t xs l))
+  unlisted l = go (view (document_of xs) t) (record_said ∙ ap found (row_at t xs ∙ slice_get_past xs (position t xs) l))
     where
       go : (o : Option View) → asked (λ v. v.row) o ≡ Err Absent → o ≡ None
       go None e = refl
@@ -72,7 +61,7 @@ module _ (xs : List Node) (h : Lists xs) (t : ℕ) where
 
   -- the row that is seen, and where it stands
   seen_row : position t xs < length xs → (v : View) × (view (document_of xs) t ≡ Some v) × (v.row ≡ get_or xs (position t xs) no_node)
-  seen_row l = go (view (document_of xs) t) refl (record_said ∙ ap found (row_there t xs no_node l))
+  seen_row l = go (view (document_of xs) t) refl (record_said ∙ ap found (row_at t xs ∙ slice_get-get_or xs (position t xs) no_node l))
     where
       go : (o : Option View) → view (document_of xs) t ≡ o → asked (λ v. v.row) o ≡ Ok (get_or xs (position t xs) no_node) → (v : View) × (view (document_of xs) t ≡ Some v) × (v.row ≡ get_or xs (position t xs) no_node)
       go None q e = let z : ◌≡◌ {A = ℕ} 0 1 = cc in absurd (omega arith)
