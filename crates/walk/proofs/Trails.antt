@@ -164,6 +164,17 @@ module _ (d : Forest) (once : (t : ℕ) → count t d ≤ 1) (w : Standing d) wh
       let e = eq-eqb w.label.id w.label.id refl in
       (found once w.trail w.label.id (omega (arith, ap one e))).onward ∙ rw e
 
+  -- a node is no attribute
+  pub standing_labels : labels_at d w.label.id ≡ []
+  unfolding labels_at
+  standing_labels =
+      let c : count w.label.id (node w.label w.attributes w.children w.behind) ≤ 1 = omega (arith, once w.label.id, within w.trail w.label.id) in
+      let i = one_refl w.label.id in
+      let a = no_labels_from w.label.id w.attributes (omega arith) in
+      let k = no_labels_in w.label.id w.children (omega arith) in
+      let f = no_labels_in w.label.id w.behind (omega arith) in
+      (found once w.trail w.label.id (omega (arith, i))).labels ∙ rw (a, k, f)
+
 counted : (a : Label) (l front : List Label) → 1 ≤ count_labels a.id (front ++ (a ∷ l))
 counted a l [] = omega (arith, one_refl a.id)
 counted a l (b ∷ front) = omega (arith, counted a l front)

@@ -1,3 +1,4 @@
 pub mod Ahead
 pub mod Written
 pub mod Says
+pub mod Left

@@ -1,16 +1,10 @@
 -- What the listing answers, and what it leaves.
-use Rattle.std.specs.Prelude.{ℕ, cond, List, ◌++◌, length, drop, Some, None, Ok, Err, Option, Result, nat_lt, slice_set}
+use Rattle.std.specs.Prelude.{ℕ, cond, List, ◌++◌, length, drop, Ok, Err, Result, nat_lt}
 use Rattle.records.specs.declared.nodes.Node.{Node}
 use Rattle.faults.specs.declared.BookFault.{BookFault}
 use Rattle.faults.specs.declared.BookFault.TheVariants.{TableShort}
 use Rattle.document.specs.Tree.{Forest, size}
 use Rattle.document.specs.Listing.{listing}
-use Rattle.store.specs.Views.{View}
-
--- a table with the record of a node at a place; an absent node leaves it as it is
-abbrev pub with_record : List Node → ℕ → Option View → List Node
-with_record xs n None = xs
-with_record xs n (Some v) = slice_set xs n v.row
 
 -- the listing, where the table has room for it
 abbrev pub list_says : List Node → Forest → Result ℕ BookFault
