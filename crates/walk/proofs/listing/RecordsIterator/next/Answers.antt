@@ -9,16 +9,11 @@ not_ok : (q : Result Node StoreFault) → None ≡ result_ok q → (r : Node) �
 not_ok (Ok x) e r h = let z : ◌≡◌ {A = ℕ} 0 1 = cc in absurd (omega arith)
 not_ok (Err f) e r h = let z : ◌≡◌ {A = ℕ} 0 1 = cc in absurd (omega arith)
 
-pub returns-in-Ok-clause-steps : goal.returns-in-Ok-clause-steps
-returns-in-Ok-clause-steps g c =
-    let s = c.args.self.now in
-    (attribute_given (g.R.Reading.forest s.store.now) c.kept.ensures.shape s.attribute s.node c.in-Ok.attribute c.next_attribute-self.result c.requires.1 c.requires.0 c.in-Ok.ensures c.next_attribute-self.ensures).all
-
-pub returns-in-Ok-clause-goes : goal.returns-in-Ok-clause-goes
-returns-in-Ok-clause-goes g c =
+pub returns-in-Ok : goal.returns-in-Ok
+returns-in-Ok g c =
     let s = c.args.self.now in
     let u = attribute_given (g.R.Reading.forest s.store.now) c.kept.ensures.shape s.attribute s.node c.in-Ok.attribute c.next_attribute-self.result c.requires.1 c.requires.0 c.in-Ok.ensures c.next_attribute-self.ensures in
-    record { on = λ f. ((u.walks, u.begins), tt, omega (arith, ap length u.all)); keeps = (u.walks, u.begins); rests = λ f. tt }
+    record { steps = u.all; goes = record { on = λ f. ((u.walks, u.begins), tt, omega (arith, ap length u.all)); keeps = (u.walks, u.begins); rests = λ f. tt } }
 
 pub returns-in_err-node-clause-steps : goal.returns-in_err-node-clause-steps
 returns-in_err-node-clause-steps g c =
@@ -26,15 +21,9 @@ returns-in_err-node-clause-steps g c =
     let m = nothing_left (g.R.Reading.forest s.store.now) c.kept.ensures.shape s.attribute s.node (λ r e. c.in_default.not-Ok r (c.node.ensures ∙ e)) (λ r e. not_ok c.node-2.result (sym c.in_err-node.was ∙ c.ok.ensures.value) r (c.node-2.ensures ∙ e)) in
     rw c.from_residual.ensures (m, m)
 
-pub returns-clause-steps : goal.returns-clause-steps
-returns-clause-steps g c =
-    let s = c.args.self.now in
-    (node_given (g.R.Reading.forest s.store.now) c.kept.ensures.shape s.attribute s.node c.in_ok-node.node c.first_attribute-self.result c.after-self.result
-    (λ r e. c.in_default.not-Ok r (c.node.ensures ∙ e)) c.requires.0 (search rules) c.first_attribute-self.ensures c.after-self.ensures).all
-
-pub returns-clause-goes : goal.returns-clause-goes
-returns-clause-goes g c =
+pub returns : goal.returns
+returns g c =
     let s = c.args.self.now in
     let u = node_given (g.R.Reading.forest s.store.now) c.kept.ensures.shape s.attribute s.node c.in_ok-node.node c.first_attribute-self.result c.after-self.result
     (λ r e. c.in_default.not-Ok r (c.node.ensures ∙ e)) c.requires.0 (search rules) c.first_attribute-self.ensures c.after-self.ensures in
-    record { on = λ f. ((u.walks, u.begins), tt, omega (arith, ap length u.all)); keeps = (u.walks, u.begins); rests = λ f. tt }
+    record { steps = u.all; goes = record { on = λ f. ((u.walks, u.begins), tt, omega (arith, ap length u.all)); keeps = (u.walks, u.begins); rests = λ f. tt } }
