@@ -106,9 +106,6 @@ module _ (d : Forest) (ok : Kept d) where
       go nil e i = i
       go (node r as' k f) e i = ap first_of e
 
-  pub walks_on : (s : List Row) → Trails d s → Walks d (first_ahead s)
-  walks_on s t = ap head_ahead (onward s t) ∙ first_settled s
-
   -- the walk stands at a node
   pub stands : (x : ℕ) → Walks d x → (x ≡ 0 → ⊥) → (w : Standing d) × (w.label.id ≡ x)
   stands x h nz = go (spot d x)

@@ -1,5 +1,5 @@
 -- Tables that are filled one entry after another.
-use Rattle.std.proofs.Common.{◌≡◌, ℕ, zero, suc, ◌+◌, ◌≤◌, List, [], ◌∷◌, ◌++◌, length, drop, set, sym, refl, ap, ◌∙◌, add-zero, add-suc, suc-add, add-one, arith, length-set}
+use Rattle.std.proofs.Common.{◌≡◌, ℕ, zero, suc, ◌+◌, ◌≤◌, List, [], ◌∷◌, ◌++◌, length, drop, set, sym, refl, ap, ◌∙◌, add-zero, add-suc, suc-add, arith}
 use Rattle.walk.specs.Written.{written}
 
 -- one list behind another
@@ -7,14 +7,6 @@ pub written-++ : {X : Type 0} → (xs : List X) (n : ℕ) (ys zs : List X) → w
 written-++ xs n [] zs = ap (λ m. written xs m zs) (add-zero n)
 written-++ xs n (y ∷ ys) zs =
     ap (λ m. written (written (set xs n y) (suc n) ys) m zs) (add-suc n (length ys) ∙ sym (suc-add n (length ys))) ∙ written-++ (set xs n y) (suc n) ys zs
-
-pub length_written : {X : Type 0} → (xs : List X) (n : ℕ) (ys : List X) → length (written xs n ys) ≡ length xs
-length_written xs n [] = refl
-length_written xs n (y ∷ ys) = length_written (set xs n y) (suc n) ys ∙ length-set xs n y
-
--- one entry, then the others
-pub written_one : {X : Type 0} → (xs : List X) (n : ℕ) (y : X) (ys : List X) → written (set xs n y) (n + 1) ys ≡ written xs n (y ∷ ys)
-written_one xs n y ys = ap (λ m. written (set xs n y) m ys) (add-one n)
 
 written_cons : {X : Type 0} → (x : X) (xs : List X) (n : ℕ) (ys : List X) → written (x ∷ xs) (suc n) ys ≡ x ∷ written xs n ys
 written_cons x xs n [] = refl
