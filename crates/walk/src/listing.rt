@@ -56,6 +56,7 @@ pub fn list<R: Reading>(store: &R, nodes: &mut [Node]) -> Result<usize, BookFaul
         attribute: 0,
         node: store.root(),
     };
+    // By place, since a proof knows nothing of what is written through `nodes.iter_mut().zip(records)`.
     for (place, node) in records.enumerate() {
         nodes[place] = node;
     }
