@@ -7,3 +7,7 @@ pub mod Putting
 pub mod Adding
 pub mod Stepping
 pub mod Whole
+pub mod Readied
+pub mod Copying
+pub mod Growing
+pub mod Inside

@@ -13,7 +13,7 @@ use Rattle.changes.specs.Tables.{trees_of, changes_of}
 use Rattle.changes.specs.Overriding.{has_change}
 use Rattle.walk.specs.Written.{written}
 use Rattle.walk.proofs.Writing.{written-++}
-use Rattle.reduce.specs.declared.lookup.Key.{Key}
+use Rattle.reduce.specs.declared.keys.Key.{Key}
 use Rattle.reduce.specs.Mirror.{group}
 use Rattle.reduce.specs.Groups.{is_for, first_operation, Stretches, blank, key}
 

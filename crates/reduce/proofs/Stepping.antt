@@ -10,7 +10,7 @@ use Rattle.changes.specs.Changes.{Change}
 use Rattle.walk.specs.Ahead.{ahead, behind_node, after_node, Walks, attributes_of, labels_at, over, size_ahead}
 use Rattle.walk.proofs.Trails.{below, along}
 use Rattle.walk.proofs.Walking.{NodeStep, Left, zero_ahead, zero_labels, above_first, node_step, left_all, label_step, goes_over, goes_after, goes_behind, goes_whole}
-use Rattle.reduce.specs.declared.lookup.Key.{Key}
+use Rattle.reduce.specs.declared.keys.Key.{Key}
 use Rattle.reduce.specs.Groups.{key, gap_key}
 use Rattle.reduce.specs.Mirror.{group, goes, cuts, left_on_attribute, left_on_attributes, gap, left_on, left_at, left_ahead, reduced_row}
 

@@ -12,8 +12,8 @@ use Rattle.document.specs.Listing.{rows}
 use Rattle.changes.specs.Changes.{Change, ◌⊕◌}
 use Rattle.changes.specs.Tables.{trees_of}
 use Rattle.ordered.specs.Table.{Ascending, Placed}
-use Rattle.reduce.specs.declared.lookup.Key.{Key}
-use Rattle.reduce.specs.declared.lookup.Entry.{Entry}
+use Rattle.reduce.specs.declared.keys.Key.{Key}
+use Rattle.reduce.specs.declared.keys.Entry.{Entry}
 use Rattle.reduce.specs.Mirror.{group}
 
 abbrev pub is_for : ℕ → Code → Operation → Bool

@@ -1,3 +1,4 @@
 pub mod Mirror
 pub mod Groups
 pub mod Output
+pub mod Lists

@@ -1,14 +1,16 @@
 -- Two tables that a list is written into, and how far they are used.
-use Rattle.std.specs.Prelude.{◌≡◌, ℕ, ◌+◌, ◌^◌, ◌<◌, Bool, cond, ◌||◌, List, [], ◌∷◌, ◌++◌, length, drop, Ok, Err, Result, nat_lt}
+use Rattle.std.specs.Prelude.{◌≡◌, ℕ, ◌+◌, ◌^◌, ◌<◌, Bool, cond, ◌||◌, List, [], ◌∷◌, ◌++◌, length, drop, Ok, Err, Result, nat_lt, slice_set}
 use Rattle.reduce.specs.declared.tables.TableFault.{TableFault}
 use Rattle.reduce.specs.declared.tables.TableFault.TheVariants.{TableShort}
 use Rattle.records.specs.declared.nodes.Node.{Node}
+use Rattle.records.specs.declared.operations.Code.{Code}
 use Rattle.records.specs.declared.operations.Operation.{Operation}
 use Rattle.document.specs.Listing.{rows}
 use Rattle.changes.specs.Changes.{Change}
 use Rattle.changes.specs.Tables.{operation_rows, node_rows}
 use Rattle.walk.specs.Written.{written}
 use Rattle.reduce.specs.declared.tables.Tally.{Tally}
+use Rattle.reduce.specs.declared.tables.Tables.{Tables}
 
 pub record Output : Type 0 where
   pub operations : List Operation
@@ -20,6 +22,10 @@ output os ns t = record { operations = os; nodes = ns; used = t }
 
 abbrev pub tally : ℕ → ℕ → Tally
 tally n m = record { operations = n; nodes = m }
+
+-- an operation without nodes, name and value
+abbrev pub bare : ℕ → Code → Operation
+bare t c = record { target = t; code = c; count = 0; name = 0; value = 0 }
 
 abbrev pub operation_row : Change → Operation
 operation_row o = record { target = o.target; code = o.code; count = length (rows 0 o.nodes); name = o.name; value = o.value }
@@ -37,6 +43,27 @@ with_changes s (o ∷ l) = with_changes (with_change s o) l
 -- the tables and the tally after some changes are added
 abbrev pub Adds : List Operation → List Node → Tally → List Operation → List Node → Tally → List Change → Type 0
 Adds os ns t os' ns' t' l = output os' ns' t' ≡ with_changes (output os ns t) l
+
+-- The tables of a writer, and what it does to them: the references stay where they are
+abbrev pub held : Tables → Output
+held t = output t.operations.now t.nodes.now t.used
+
+pub record SameTables (t t' : Tables) : Type 0 where
+  pub operations : t'.operations.ghost_name ≡ t.operations.ghost_name
+  pub nodes : t'.nodes.ghost_name ≡ t.nodes.ghost_name
+
+pub record Pushed (t t' : Tables) (o : Operation) : Type 0 where
+  pub same : SameTables t t'
+  pub left : held t' ≡ output (slice_set t.operations.now t.used.operations o) t.nodes.now (tally (t.used.operations + 1) t.used.nodes)
+
+pub record Copied (t t' : Tables) (xs : List Node) : Type 0 where
+  pub same : SameTables t t'
+  pub left : held t' ≡ output t.operations.now (written t.nodes.now t.used.nodes xs) (tally t.used.operations (t.used.nodes + length xs))
+
+-- some changes are added
+pub record Grown (t t' : Tables) (l : List Change) : Type 0 where
+  pub same : SameTables t t'
+  pub adds : Adds t.operations.now t.nodes.now t.used t'.operations.now t'.nodes.now t'.used l
 
 -- the numbers stay small
 abbrev pub RoomFor : Tally → List Change → Type 0

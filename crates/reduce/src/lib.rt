@@ -2,12 +2,15 @@
 #![tactic(auto)]
 
 mod filling;
+mod finding;
+mod keys;
 mod lookup;
 mod parts;
 mod reducing;
 mod tables;
 
 pub use filling::fill;
-pub use lookup::{Entry, Lookup};
+pub use keys::Entry;
+pub use lookup::Lookup;
 pub use reducing::write_reduced;
 pub use tables::{TableFault, Tally};

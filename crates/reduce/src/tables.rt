@@ -1,8 +1,8 @@
-// Tables that are filled one entry after another. What passes the end of a table is counted, and not written.
-ghost use Rattle.std.specs.Prelude.{◌≡◌, ℕ, ◌+◌, ◌^◌, ◌<◌, ◌≤◌, length, take, drop, slice_set};
-ghost use Rattle.walk.specs.Written.{written};
+// Two lent tables that a list is written into. What passes the end of a table is counted, and not written.
+ghost use Rattle.std.specs.Prelude.{◌≡◌, ◌+◌, ◌^◌, ◌<◌, length, slice_set};
+ghost use Rattle.reduce.specs.Output.{tally, Copied, Pushed};
 
-use records::Node;
+use records::{Node, Operation};
 
 // How far the tables of a list are used.
 #[derive(Clone, Copy, PartialEq, Eq, Debug)]
@@ -18,28 +18,56 @@ pub enum TableFault {
     TableShort,
 }
 
-// Puts an entry at the place `n`, and answers the place behind it.
-pub fn push<T: Copy>(table: &mut [T], n: usize, entry: T) -> usize
-    requires { n < 2 ^ 32 }
-    ensures answer { result ≡ n + 1 }
-    ensures table { table.new ≡ slice_set table.old n entry }
-{
-    if n < table.len() {
-        table[n] = entry;
-    }
-    n + 1
+// The tables, and how far they are used.
+pub struct Tables<'a> {
+    pub operations: &'a mut [Operation],
+    pub nodes: &'a mut [Node],
+    pub used: Tally,
 }
 
-// Copies `count` nodes from the place `start` on.
-pub fn copy(nodes: &[Node], start: usize, count: u32, table: &mut [Node], n: usize) -> usize
-    requires within { start + count ≤ length nodes.now }
-    requires fits { n + count < 2 ^ 32 }
-    ensures answer { result ≡ n + count }
-    ensures table { table.new ≡ written table.old n (take count (drop start nodes.now)) }
+// Puts an entry at a place, if the table has it.
+fn put<T: Copy>(table: &mut [T], place: usize, entry: T)
+    ensures { table.new ≡ slice_set table.old place entry }
 {
-    let mut at = n;
-    for i in start..start + count as usize {
-        at = push(table, at, nodes[i]);
+    if place < table.len() {
+        table[place] = entry;
     }
-    at
+}
+
+impl<'a> Tables<'a> {
+    // Of which nothing is used yet.
+    pub fn unused(operations: &'a mut [Operation], nodes: &'a mut [Node]) -> Tables<'a>
+        ensures operations { (result.operations.now ≡ operations.old) × (result.operations.ghost_name ≡ operations.entry.ghost_name) }
+        ensures nodes { (result.nodes.now ≡ nodes.old) × (result.nodes.ghost_name ≡ nodes.entry.ghost_name) }
+        ensures used { result.used ≡ tally 0 0 }
+    {
+        Tables {
+            operations,
+            nodes,
+            used: Tally {
+                operations: 0,
+                nodes: 0,
+            },
+        }
+    }
+
+    // Adds an operation, whose nodes stand in the table already.
+    pub fn push(&mut self, operation: Operation)
+        requires { self.old.used.operations < 2 ^ 32 }
+        ensures { Pushed self.old self.new operation }
+    {
+        put(self.operations, self.used.operations, operation);
+        self.used.operations += 1;
+    }
+
+    // Adds nodes.
+    pub fn copy(&mut self, nodes: &[Node])
+        requires { self.old.used.nodes + length nodes.now < 2 ^ 32 }
+        ensures { Copied self.old self.new nodes.now }
+    {
+        for node in nodes {
+            put(self.nodes, self.used.nodes, *node);
+            self.used.nodes += 1;
+        }
+    }
 }
