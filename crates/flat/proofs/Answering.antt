@@ -1,7 +1,5 @@
 -- What a flat store answers is what its document says.
-use Rattle.std.proofs.Common.{◌≡◌, ℕ, zero, suc, ◌+◌, ◌<◌, ◌≤◌, Bool, true, false, ◌⊎◌, List, length, take, drop, Some, None, Ok, Option, Ordering, Less, Equal, Greater, sym, refl, ap, ◌∙◌, inl, inr, arith}
-use mathlib.Core.Logic.{∥∥₁_elim}
-use mathlib.Core.HLevel.{⊥_prop}
+use Rattle.std.proofs.Common.{◌≡◌, ℕ, zero, suc, ◌+◌, ◌<◌, ◌≤◌, Bool, true, false, ◌⊎◌, List, length, take, drop, None, Ok, Ordering, Less, Equal, Greater, sym, refl, ap, ◌∙◌, inl, inr, arith}
 use Rattle.std.specs.Cmp.{ranks, tied_itself}
 use Rattle.std.specs.Ordering.{is_lt, nat_cmp, ordering_then, MatchOrdering}
 use Rattle.std.proofs.lemmas.List.{get_or_default}
@@ -11,17 +9,17 @@ use Rattle.document.specs.Tree.{Forest, size}
 use Rattle.document.specs.Table.{is_attribute}
 use Rattle.ordered.specs.declared.entries.RowOf.{RowOf}
 use Rattle.ordered.specs.Table.{Ascending}
-use Rattle.ordered.specs.Entries.{by_identifier, LookedUp}
+use Rattle.ordered.specs.Entries.{by_identifier}
 use Rattle.ordered.proofs.Orders.{identifiers}
 use Rattle.store.specs.Views.{View, view, first_of, asked, record_says, first_child_says, next_sibling_says, first_attribute_says, next_attribute_says, place_says}
 use Rattle.store.specs.Listed.{child_row, attribute_row, first_where, last_where}
 use Rattle.flat.specs.declared.rows.FlatRow.{FlatRow}
 use Rattle.flat.specs.Means.{no_entry, at, up, entry, nodes, means, Plain, Stored}
-use Rattle.flat.specs.Walks.{child_at, attribute_at, Behind, Unknown, Sought}
+use Rattle.flat.specs.Walks.{child_at, attribute_at, Behind, Unknown}
 use Rattle.store.proofs.Neighbours.{size_and_root_are_listed}
 use Rattle.flat.proofs.Tables.{first_from, none_from}
 use Rattle.flat.proofs.Families.{up_before}
-use Rattle.flat.proofs.Standing.{nodes_long, node_at, Seen, plain, sight, no_sight, listed_size}
+use Rattle.flat.proofs.Standing.{nodes_long, node_at, Seen, plain, sight, listed_size}
 use Rattle.flat.proofs.Asking.{first_attribute, next_attribute, first_child, next_sibling}
 
 -- ---- the index
@@ -51,7 +49,7 @@ module _ (R : List FlatRow) (X : List RowOf) (n : ℕ) (h : n ≤ length R) (s :
   P : Plain R n
   P = plain R X n h s
 
-  unknown_from : (t : ℕ) → view (means R n) t ≡ None → Unknown (means R n) t
+  pub unknown_from : (t : ℕ) → view (means R n) t ≡ None → Unknown (means R n) t
   unknown_from t e =
       record {
         seen = e;
@@ -62,21 +60,6 @@ module _ (R : List FlatRow) (X : List RowOf) (n : ℕ) (h : n ≤ length R) (s :
         next_attribute = ap (asked (λ v. v.next_attribute)) e;
         place = ap (asked (λ v. (v.row.parent, v.left))) e;
       }
-
-  -- a look-up in the index finds the row
-  pub sought : (t : ℕ) (o : Option ℕ) → n ≤ length X → (n ≤ length X → Ascending by_identifier n X → LookedUp X n t o) → Sought R n t o
-  sought t o g found = by o (found g (ascending_from X n g s.indexed.ascending))
-    where
-      by : (o : Option ℕ) → LookedUp X n t o → Sought R n t o
-      by (Some r) (k, l, e) =
-          let w = s.indexed.leading k l in
-          let same : entry X k ≡ record { id = t; row = r } = e no_entry in
-          let row : (entry X k).row ≡ r = ap (λ (x : RowOf). x.row) same in
-          let id : (entry X k).id ≡ t = ap (λ (x : RowOf). x.id) same in
-          (omega (arith, w.0), ap (λ (i : ℕ). (at R i).node.id) (sym row) ∙ w.1 ∙ id)
-      by None none =
-          unknown_from t (no_sight R X n h s t (λ i l e. ∥∥₁_elim (s.indexed.reaching i l) ⊥_prop
-          (λ w. none w.0 no_entry w.1 (sym (s.indexed.leading w.0 w.1).1 ∙ ap (λ (j : ℕ). (at R j).node.id) w.2 ∙ e))))
 
   -- ---- the questions about the node in row i
 

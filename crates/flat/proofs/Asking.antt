@@ -1,12 +1,15 @@
 -- What is read off the rows around a node's row are the neighbours that the listing shows.
-use Rattle.std.proofs.Common.{◌≡◌, ℕ, zero, suc, ◌+◌, ◌-◌, ◌<◌, ◌≤◌, Bool, true, false, cond, not, ◌&&◌, eqb, ltb, ◌⊎◌, List, length, take, drop, None, sym, refl, ap, ◌∙◌, subst, inl, inr, arith}
+use Rattle.std.proofs.Common.{◌≡◌, ℕ, zero, suc, ◌+◌, ◌-◌, ◌<◌, ◌≤◌, Bool, true, false, cond, not, ◌&&◌, eqb, ltb, ◌⊎◌, List, length, take, drop, None, Option, sym, refl, ap, ◌∙◌, subst, inl, inr, arith, length-drop}
+use Rattle.std.specs.List.{prefix_len}
+use Rattle.std.proofs.lemmas.List.{get_or-drop}
+use Rattle.std.proofs.lemmas.List.Sums.{prefix_len-le-length, prefix_len_passes, prefix_len_stops}
 use Rattle.std.proofs.lemmas.Bool.{cases_lt, cases_eq, both_ways, eq-eqb, ne_eqb, eqb-true, lt-ltb, le-ltb, and_left, and_parts, and_from}
 use Rattle.records.specs.declared.nodes.Node.{Node}
 use Rattle.document.specs.Table.{is_attribute}
 use Rattle.store.specs.Listed.{child_row, attribute_row, first_where, last_where}
 use Rattle.flat.specs.declared.rows.FlatRow.{FlatRow}
-use Rattle.flat.specs.Means.{at, up, nodes, Laid, Plain}
-use Rattle.flat.specs.Walks.{child_at, attribute_at, Behind, Walked}
+use Rattle.flat.specs.Means.{no_row, at, up, nodes, Laid, Plain}
+use Rattle.flat.specs.Walks.{child_at, attribute_at, passes, Behind, Walked}
 use Rattle.flat.proofs.Tables.{nth, first_from, none_from, first_beyond, last_step, last_skip}
 use Rattle.flat.proofs.Standing.{nodes_long, node_at}
 use Rattle.flat.proofs.Families.{up_before, parent_above, outside_child, inside_other, within_parent, sibling_up, attribute_run, attribute_bare}
@@ -14,6 +17,30 @@ use Rattle.flat.proofs.Families.{up_before, parent_above, outside_child, inside_
 and_right : (a b : Bool) → b ≡ false → (a && b) ≡ false
 and_right true b e = e
 and_right false b e = refl
+
+-- the count of rows that pass behind a row leads behind its attributes
+pub behind_from : (R : List FlatRow) (i p : ℕ) (b : Option ℕ) (m : ℕ) → i < length R → m ≡ prefix_len (λ (r : FlatRow). passes p b r.node) (drop (i + 1) R)
+    → Behind R (length R) i p b (i + 1 + m)
+behind_from R i p b m l e =
+    record {
+      after = omega arith;
+      within = omega (arith, e, prefix_len-le-length test D, long);
+      run = λ k a c.
+          let z : i + 1 + (k - (i + 1)) ≡ k = omega arith in
+          ap (λ (j : ℕ). test (at R j)) (sym z) ∙ ap test (sym (get_or-drop (i + 1) R (k - (i + 1)) no_row)) ∙ prefix_len_passes test D (k - (i + 1)) no_row (omega (arith, e));
+      stop = λ g.
+          let y : prefix_len test D < length D = omega (arith, e, long) in
+          rw e (ap test (sym (get_or-drop (i + 1) R (prefix_len test D) no_row)) ∙ prefix_len_stops test D no_row y);
+    }
+  where
+    test : FlatRow → Bool
+    test r = passes p b r.node
+
+    D : List FlatRow
+    D = drop (i + 1) R
+
+    long : length D ≡ length R - (i + 1)
+    long = length-drop (i + 1) R
 
 module _ (R : List FlatRow) (n : ℕ) (h : n ≤ length R) (L : Laid R n) (P : Plain R n) where
   abbrev N : List Node

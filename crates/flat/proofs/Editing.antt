@@ -10,13 +10,15 @@ use Rattle.store.specs.Listed.{renamed_row, revalued_row}
 use Rattle.store.proofs.Edits.{rename_changes_one, set_value_changes_one, rename_keeps, set_value_keeps}
 use Rattle.flat.specs.declared.rows.FlatRow.{FlatRow}
 use Rattle.flat.specs.Means.{at, means, Stored}
+use Rattle.flat.specs.declared.flat_store.FlatStore.{FlatStore}
+use Rattle.flat.specs.Document.{document}
 use Rattle.flat.specs.Judging.{Judged}
 use Rattle.flat.proofs.Standing.{node_at, sight}
 use Rattle.flat.proofs.Keeping.{Edits, edited_row, edited_stored, edited_means}
 
 -- a refusal leaves the document
-pub refused : (R : List FlatRow) (n t : ℕ) (says : Answer) (e : StoreFault) → Err e ≡ says → Judged R n t says (Err e)
-refused R n t says e h = (h, λ new. ap (λ (a : Answer). after a new (means R n)) h)
+pub refused : (me : FlatStore) (t : ℕ) (says : Answer) (e : StoreFault) → Err e ≡ says → Judged me t says (Err e)
+refused me t says e h = (h, λ new. ap (λ (a : Answer). after a new (document me)) h)
 
 -- the row with another name or value
 abbrev pub with_name : ℕ → FlatRow → FlatRow

@@ -1,5 +1,5 @@
 -- A store that is changed holds what its rows list.
-use Rattle.std.proofs.Common.{◌≡◌, ℕ, ◌<◌, ◌≤◌, ◌⊎◌, List, map, length, set, sym, refl, ap, ◌∙◌, subst, inl, inr, arith, length-set}
+use Rattle.std.proofs.Common.{◌≡◌, ℕ, ◌+◌, ◌<◌, ◌≤◌, ◌⊎◌, List, map, length, set, sym, refl, ap, ◌∙◌, subst, inl, inr, arith, length-set}
 use Rattle.std.proofs.lemmas.List.{ext_get_or, get_or-map, get_or-set_same, get_or-set_other, length-map}
 use Rattle.std.proofs.lemmas.Bool.{cases_eq}
 use Rattle.records.specs.declared.nodes.Node.{Node}
@@ -39,29 +39,32 @@ pub record Alike (x y : FlatRow) : Type 0 where
   pub parent : x.node.parent ≡ y.node.parent
   pub kind : x.node.kind ≡ y.node.kind
 
-module _ (R S : List FlatRow) (n : ℕ) (a : (k : ℕ) → Alike (at R k) (at S k)) where
-  same_up : (k : ℕ) → up R k ≡ up S k
-  same_up k = omega (arith, (a k).distance)
+module _ (R S : List FlatRow) (n : ℕ) (a : (k : ℕ) → k < n → Alike (at R k) (at S k)) where
+  same_up : (k : ℕ) → k < n → up R k ≡ up S k
+  same_up k l = omega (arith, (a k l).distance)
 
   pub laid_alike : Laid R n → Laid S n
   laid_alike L =
       record {
-        backward = λ k b c. let u = L.backward k b c in (omega (arith, (a k).distance), omega (arith, (a k).distance));
+        backward = λ k b c. let u = L.backward k b c in (omega (arith, (a k c).distance), omega (arith, (a k c).distance));
         parented = λ k b c.
-            let u = L.parented k b c in (
-              ap (λ (j : ℕ). (at S j).node.id) (sym (same_up k)) ∙ sym (a (up R k)).id ∙ u.0 ∙ (a k).parent,
-              ap (λ (j : ℕ). is_element (at S j).node.kind) (sym (same_up k)) ∙ ap is_element (sym (a (up R k)).kind) ∙ u.1,
+            let u = L.parented k b c in
+            let l : up R k < n = omega arith in (
+              ap (λ (j : ℕ). (at S j).node.id) (sym (same_up k c)) ∙ sym (a (up R k) l).id ∙ u.0 ∙ (a k c).parent,
+              ap (λ (j : ℕ). is_element (at S j).node.kind) (sym (same_up k c)) ∙ ap is_element (sym (a (up R k) l).kind) ∙ u.1,
             );
-        sized = λ i b. let u = L.sized i b in (omega (arith, (a i).size), omega (arith, (a i).size));
-        inside = λ i k b c e. omega (arith, same_up k, L.inside i k b c (omega (arith, (a i).size)));
-        outside = λ i k b c e f. omega (arith, same_up k, (a i).size, L.outside i k b (omega (arith, (a i).size)) e (omega (arith, same_up k)));
+        sized = λ i b. let u = L.sized i b in (omega (arith, (a i b).size), omega (arith, (a i b).size));
+        inside = λ i k b c e.
+            let z : k < i + (at R i).size = omega (arith, (a i b).size) in
+            let l : k < n = omega (arith, (L.sized i b).1) in omega (arith, same_up k l, L.inside i k b c z);
+        outside = λ i k b c e f. omega (arith, same_up k e, (a i b).size, L.outside i k b (omega (arith, (a i b).size)) e (omega (arith, same_up k e)));
       }
 
   pub indexed_alike : (X : List RowOf) → Indexed R X n → Indexed S X n
   indexed_alike X I =
       record {
         ascending = I.ascending;
-        leading = λ k b. ((I.leading k b).0, sym (a (entry X k).row).id ∙ (I.leading k b).1);
+        leading = λ k b. ((I.leading k b).0, sym (a (entry X k).row (I.leading k b).0).id ∙ (I.leading k b).1);
         reaching = I.reaching;
       }
 
@@ -108,7 +111,7 @@ module _ (R : List FlatRow) (X : List RowOf) (n : ℕ) (h : n ≤ length R) (s :
         (λ k b. get_or-map f (nodes R n) k no_node no_node (omega (arith, nodes_long R n h)) ∙ ap f (node_at R n k h b) ∙ edited_node k b)
 
     pub edited_stored : Stored S X n
-    edited_stored = stored_from S X n d kept edited_listed (laid_alike R S n alike s.laid) (indexed_alike R S n alike X s.indexed)
+    edited_stored = stored_from S X n d kept edited_listed (laid_alike R S n (λ k _. alike k) s.laid) (indexed_alike R S n (λ k _. alike k) X s.indexed)
 
     pub edited_means : means S n ≡ d
     edited_means = means_listed S n d kept edited_listed

@@ -1,3 +1,4 @@
+pub mod OfKind
 pub mod Regathering
 pub mod Certain
 pub mod Tables
@@ -6,9 +7,10 @@ pub mod Standing
 pub mod Families
 pub mod Asking
 pub mod Answering
-pub mod Holding
 pub mod Beginning
 pub mod Keeping
+pub mod Holding
+pub mod Seeking
 pub mod Editing
 pub mod Taking
 pub mod Unlisting

@@ -1,12 +1,13 @@
 -- A put: the tests before it, and what the store holds after it.
-use Rattle.std.proofs.Common.{◌≡◌, ℕ, suc, ◌+◌, ◌-◌, ◌<◌, ◌≤◌, true, false, eqb, ◌⊎◌, List, ◌∷◌, length, take, drop, None, Ok, Err, sym, refl, ap, ◌∙◌, inl, inr, arith, length-append, length-drop}
+use Rattle.std.proofs.Common.{◌≡◌, ℕ, suc, ◌+◌, ◌-◌, ◌<◌, ◌≤◌, true, false, eqb, ◌⊎◌, List, ◌∷◌, length, take, drop, vec_len, None, Ok, Err, Result, sym, refl, ap, ◌∙◌, inl, inr, arith, length-append, length-drop}
+use Rattle.std.specs.Result.{is_ok}
 use Rattle.std.proofs.lemmas.List.{get_or-take, get_or-drop, get_or_append_left, get_or-append_right, length-take-le}
 use Rattle.std.proofs.lemmas.Bool.{cases_order}
 use Rattle.records.specs.Formed.{formed_node}
 use Rattle.records.specs.declared.nodes.Node.{Node}
 use Rattle.document.specs.Listing.{listing}
 use Rattle.faults.specs.declared.StoreFault.{StoreFault}
-use Rattle.faults.specs.declared.StoreFault.TheVariants.{Misformed, Known, Unsuited, Full}
+use Rattle.faults.specs.declared.StoreFault.TheVariants.{Known, Full}
 use Rattle.ordered.specs.declared.entries.RowOf.{RowOf}
 use Rattle.store.specs.Views.{view}
 use Rattle.store.specs.Says.{Answer, after, fits, put_says, put_leaves}
@@ -17,6 +18,10 @@ use Rattle.flat.specs.declared.rows.Spot.{Spot}
 use Rattle.flat.specs.Means.{no_node, at, nodes, means, Laid, Plain, Stored}
 use Rattle.flat.specs.Shifts.{Planted, Enlisted}
 use Rattle.flat.specs.Spots.{Below, Suited, PutJudged}
+use Rattle.flat.specs.declared.flat_store.FlatStore.{FlatStore}
+use Rattle.flat.specs.Document.{document}
+use Rattle.flat.specs.Judging.{Sought}
+use Rattle.flat.proofs.Holding.{R as all, X as index, fits as enough, held}
 use Rattle.flat.proofs.Tables.{nth, times_at}
 use Rattle.flat.proofs.Standing.{nodes_long, node_at, plain, sight, listed_times}
 use Rattle.flat.proofs.Answering.{size_is}
@@ -43,28 +48,28 @@ inserted_high i x xs k h l =
     let e : i + (k - i) ≡ k = omega arith in
     get_or-append_right (take i xs) (x ∷ drop i xs) i (k + 1) no_node (length-take-le i xs h) (omega arith) ∙ ap (nth (x ∷ drop i xs)) z ∙ get_or-drop i xs (k - i) no_node ∙ ap (nth xs) e
 
+-- ---- the tests
+
+module _ (me : FlatStore) (x : Node) (left : ℕ) where
+  refused_put : (e : StoreFault) → Err e ≡ put_says (vec_len me.rows) (document me) x left → PutJudged me x left (Err e)
+  refused_put e w = (w, λ new. ap (λ (a : Answer). after a new (document me)) w)
+
+  pub known : formed_node x ≡ true → (r : Result ℕ StoreFault) → is_ok r ≡ true → Sought me x.id r → PutJudged me x left (Err Known)
+  known f (Ok i) e w = refused_put Known (rw (f, (sight (all me) (index me) me.used (enough me) (held me) x.id i w.0 w.1).seen))
+  known f (Err e') e w = let z : ◌≡◌ {A = ℕ} 0 1 = cc in absurd (omega arith)
+
+  pub unknown : (r : Result ℕ StoreFault) → is_ok r ≡ false → Sought me x.id r → view (document me) x.id ≡ None
+  unknown (Ok i) e w = let z : ◌≡◌ {A = ℕ} 0 1 = cc in absurd (omega arith)
+  unknown (Err e') e w = w.1.seen
+
+  module _ (formed : formed_node x ≡ true) (new : view (document me) x.id ≡ None) where
+    pub full : fits (document me) x left ≡ true → eqb me.used (vec_len me.rows) ≡ true → PutJudged me x left (Err Full)
+    full e f = refused_put Full (rw (formed, new, e, size_is (all me) (index me) me.used (enough me) (held me), f))
+
+    pub suited : (g : Spot) → eqb me.used (vec_len me.rows) ≡ false → Suited (all me) me.used x left g → PutJudged me x left (Ok g)
+    suited g f w = (rw (formed, new, w.fit, size_is (all me) (index me) me.used (enough me) (held me), f), w)
+
 module _ (R : List FlatRow) (X : List RowOf) (n : ℕ) (h : n ≤ length R) (s : Stored R X n) (room : ℕ) (x : Node) (left : ℕ) where
-  -- ---- the tests
-
-  pub refused_put : (e : StoreFault) → Err e ≡ put_says room (means R n) x left → PutJudged R n room x left (Err e)
-  refused_put e w = (w, λ new. ap (λ (a : Answer). after a new (means R n)) w)
-
-  pub misformed : formed_node x ≡ false → PutJudged R n room x left (Err Misformed)
-  misformed e = refused_put Misformed (rw e)
-
-  pub known : formed_node x ≡ true → (i : ℕ) → i < n → (at R i).node.id ≡ x.id → PutJudged R n room x left (Err Known)
-  known e i l w = refused_put Known (rw (e, (sight R X n h s x.id i l w).seen))
-
-  module _ (formed : formed_node x ≡ true) (new : view (means R n) x.id ≡ None) where
-    pub unsuited : fits (means R n) x left ≡ false → PutJudged R n room x left (Err Unsuited)
-    unsuited e = refused_put Unsuited (rw (formed, new, e))
-
-    pub full : fits (means R n) x left ≡ true → eqb n room ≡ true → PutJudged R n room x left (Err Full)
-    full e f = refused_put Full (rw (formed, new, e, size_is R X n h s, f))
-
-    pub suited : (g : Spot) → eqb n room ≡ false → Suited R n x left g → PutJudged R n room x left (Ok g)
-    suited g f w = (rw (formed, new, w.fit, size_is R X n h s, f), w)
-
   -- ---- the put
 
   pub room_left : Ok tt ≡ put_says room (means R n) x left → n ≤ room → n < room

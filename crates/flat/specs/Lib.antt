@@ -1,4 +1,5 @@
 pub mod Means
+pub mod Document
 pub mod Walks
 pub mod Judging
 pub mod Shifts

@@ -1,5 +1,5 @@
 -- Where a new node may stand, and what the tests before a put answer.
-use Rattle.std.specs.Prelude.{◌≡◌, ℕ, true, false, ◌⊎◌, List, Some, None, Ok, Err, Option, Result}
+use Rattle.std.specs.Prelude.{◌≡◌, ℕ, true, false, ◌⊎◌, List, Some, None, Ok, Err, Option, Result, vec_len}
 use Rattle.records.specs.declared.nodes.Node.{Node}
 use Rattle.document.specs.Tree.{Forest}
 use Rattle.faults.specs.declared.StoreFault.{StoreFault}
@@ -7,7 +7,9 @@ use Rattle.store.specs.Says.{after, is_element, fits, put_says}
 use Rattle.store.specs.Listed.{put_place}
 use Rattle.flat.specs.declared.rows.FlatRow.{FlatRow}
 use Rattle.flat.specs.declared.rows.Spot.{Spot}
+use Rattle.flat.specs.declared.flat_store.FlatStore.{FlatStore}
 use Rattle.flat.specs.Means.{at, means}
+use Rattle.flat.specs.Document.{document}
 use Rattle.flat.specs.Shifts.{Gap}
 
 -- the first row of all, or a gap below the parent's row
@@ -22,11 +24,11 @@ pub record Suited (rows : List FlatRow) (used : ℕ) (x : Node) (left : ℕ) (g 
   pub place : g.place ≡ put_place (means rows used) x left
   pub below : Below rows used x g
 
-abbrev pub Spotted : List FlatRow → ℕ → Node → ℕ → Option Spot → Type 0
-Spotted rows used x left None = fits (means rows used) x left ≡ false
-Spotted rows used x left (Some g) = Suited rows used x left g
+abbrev pub Spotted : FlatStore → Node → ℕ → Option Spot → Type 0
+Spotted s x left None = fits (document s) x left ≡ false
+Spotted s x left (Some g) = Suited s.rows.items s.used x left g
 
-abbrev pub PutJudged : List FlatRow → ℕ → ℕ → Node → ℕ → Result Spot StoreFault → Type 0
-PutJudged rows used room x left (Err e) =
-    (Err e ≡ put_says room (means rows used) x left) × ((new : Forest) → means rows used ≡ after (put_says room (means rows used) x left) new (means rows used))
-PutJudged rows used room x left (Ok g) = (Ok tt ≡ put_says room (means rows used) x left) × Suited rows used x left g
+abbrev pub PutJudged : FlatStore → Node → ℕ → Result Spot StoreFault → Type 0
+PutJudged s x left (Err e) =
+    (Err e ≡ put_says (vec_len s.rows) (document s) x left) × ((new : Forest) → document s ≡ after (put_says (vec_len s.rows) (document s) x left) new (document s))
+PutJudged s x left (Ok g) = (Ok tt ≡ put_says (vec_len s.rows) (document s) x left) × Suited s.rows.items s.used x left g

@@ -6,7 +6,7 @@ use Rattle.faults.specs.declared.StoreFault.TheVariants.{Absent}
 use Rattle.store.specs.Views.{view, record_says, first_child_says, next_sibling_says, first_attribute_says, next_attribute_says, place_says}
 use Rattle.store.specs.Listed.{child_row, attribute_row, last_where}
 use Rattle.flat.specs.declared.rows.FlatRow.{FlatRow}
-use Rattle.flat.specs.Means.{at, up, nodes, means}
+use Rattle.flat.specs.Means.{at, up, nodes}
 
 -- the identifier of the row at a place if it is a child, or an attribute, of p; else 0
 abbrev pub child_at : List FlatRow → ℕ → ℕ → ℕ → ℕ
@@ -46,8 +46,3 @@ pub record Unknown (d : Forest) (t : ℕ) : Type 0 where
   pub first_attribute : first_attribute_says d t ≡ Err Absent
   pub next_attribute : next_attribute_says d t ≡ Err Absent
   pub place : place_says d t ≡ Err Absent
-
--- what a look-up of the node t answers: its row, or nothing where it is absent
-abbrev pub Sought : List FlatRow → ℕ → ℕ → Option ℕ → Type 0
-Sought rows used t None = Unknown (means rows used) t
-Sought rows used t (Some i) = (i < used) × ((at rows i).node.id ≡ t)

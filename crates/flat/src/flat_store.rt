@@ -5,13 +5,10 @@ ghost use Rattle.flat.specs.Means.{Stored};
 use crate::rows::FlatRow;
 use ordered::RowOf;
 
-mod asks;
-mod edits;
+mod judging;
 mod making;
-mod putting;
 mod reading;
 mod spots;
-mod taking;
 mod writing;
 
 pub use making::ROOM;

@@ -2,7 +2,6 @@
 #![tactic(auto)]
 
 mod flat_store;
-mod kinds;
 mod rows;
 mod shifts;
 mod walks;

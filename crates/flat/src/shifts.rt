@@ -14,9 +14,8 @@ fn shrunk(row: FlatRow, place: usize, gone: usize) -> FlatRow
 {
     if gone - place < row.size {
         FlatRow {
-            node: row.node,
-            distance: row.distance,
             size: row.size - 1,
+            ..row
         }
     } else {
         row
@@ -30,9 +29,8 @@ fn drawn(row: FlatRow, place: usize, gone: usize) -> FlatRow
 {
     if place - row.distance < gone {
         FlatRow {
-            node: row.node,
             distance: row.distance - 1,
-            size: row.size,
+            ..row
         }
     } else {
         row
@@ -44,8 +42,8 @@ fn lowered(entry: RowOf, gone: usize) -> RowOf
 {
     if gone < entry.row {
         RowOf {
-            id: entry.id,
             row: entry.row - 1,
+            ..entry
         }
     } else {
         entry
@@ -114,9 +112,8 @@ fn grown(row: FlatRow, place: usize, parent: usize) -> FlatRow
 {
     if place <= parent && parent - place < row.size {
         FlatRow {
-            node: row.node,
-            distance: row.distance,
             size: row.size + 1,
+            ..row
         }
     } else {
         row
@@ -130,9 +127,8 @@ fn lifted(row: FlatRow, place: usize, new: usize) -> FlatRow
 {
     if place - row.distance < new {
         FlatRow {
-            node: row.node,
             distance: row.distance + 1,
-            size: row.size,
+            ..row
         }
     } else {
         row
@@ -145,8 +141,8 @@ fn raised(entry: RowOf, new: usize) -> RowOf
 {
     if new <= entry.row {
         RowOf {
-            id: entry.id,
             row: entry.row + 1,
+            ..entry
         }
     } else {
         entry

@@ -1,42 +1,29 @@
-// Reading the rows around a node's row.
-ghost use Rattle.std.specs.Prelude.{◌≡◌, ℕ, ◌<◌, ◌≤◌, length, take};
+// Reading the rows in use around a node's row.
+ghost use Rattle.std.specs.Prelude.{◌≡◌, ℕ, ◌<◌, length, take};
 ghost use Rattle.store.specs.Listed.{child_row, last_where};
 ghost use Rattle.flat.specs.Means.{at, nodes as records, Laid, Plain};
 ghost use Rattle.flat.specs.Walks.{child_at, attribute_at, passes as is_passed, Behind};
 
-use crate::kinds::is_attribute;
 use crate::rows::FlatRow;
-use records::Node;
+use records::{Kind, Node};
 
 // The identifier of the row at `place` if it is a child of `parent`; else 0.
-pub fn child_at(rows: &[FlatRow], used: usize, place: usize, parent: u32) -> u32
-    requires { used ≤ length rows.now }
-    ensures { result ≡ child_at rows.now used place parent }
+pub fn child_at(rows: &[FlatRow], place: usize, parent: u32) -> u32
+    ensures { result ≡ child_at rows.now (length rows.now) place parent }
 {
-    if place >= used {
-        return 0;
-    }
-    let node = rows[place].node;
-    if node.parent == parent && !is_attribute(node.kind) {
-        node.id
-    } else {
-        0
+    match rows.get(place) {
+        Some(row) if row.node.parent == parent && row.node.kind != Kind::Attribute => row.node.id,
+        _ => 0,
     }
 }
 
 // The identifier of the row at `place` if it is an attribute of `parent`; else 0.
-pub fn attribute_at(rows: &[FlatRow], used: usize, place: usize, parent: u32) -> u32
-    requires { used ≤ length rows.now }
-    ensures { result ≡ attribute_at rows.now used place parent }
+pub fn attribute_at(rows: &[FlatRow], place: usize, parent: u32) -> u32
+    ensures { result ≡ attribute_at rows.now (length rows.now) place parent }
 {
-    if place >= used {
-        return 0;
-    }
-    let node = rows[place].node;
-    if node.parent == parent && is_attribute(node.kind) {
-        node.id
-    } else {
-        0
+    match rows.get(place) {
+        Some(row) if row.node.parent == parent && row.node.kind == Kind::Attribute => row.node.id,
+        _ => 0,
     }
 }
 
@@ -44,44 +31,40 @@ pub fn attribute_at(rows: &[FlatRow], used: usize, place: usize, parent: u32) ->
 fn passes(node: Node, parent: u32, bound: Option<u32>) -> bool
     ensures { result ≡ is_passed parent bound node }
 {
-    if node.parent == parent && is_attribute(node.kind) {
-        match bound {
-            Some(last) => node.id <= last,
-            None => true,
-        }
-    } else {
-        false
-    }
+    node.parent == parent
+        && node.kind == Kind::Attribute
+        && bound.is_none_or(|last| node.id <= last)
 }
 
 // The first place behind the attributes of the row at `place`, or behind those up to a bound.
-pub fn behind_attributes(rows: &[FlatRow], used: usize, place: usize, bound: Option<u32>) -> usize
-    requires { (place < used) × (used ≤ length rows.now) }
-    ensures { Behind rows.now used place (at rows.now place).node.id bound result }
+pub fn behind_attributes(rows: &[FlatRow], place: usize, bound: Option<u32>) -> usize
+    requires { place < length rows.now }
+    ensures { Behind rows.now (length rows.now) place (at rows.now place).node.id bound result }
 {
     let parent = rows[place].node.id;
-    let mut k = place + 1;
-    while k < used && passes(rows[k].node, parent, bound) {
-        k += 1;
-    }
-    k
+    let behind = &rows[place + 1..];
+    let attributes = behind
+        .iter()
+        .take_while(|row| passes(row.node, parent, bound))
+        .count();
+    place + 1 + attributes
 }
 
 // The last child before the row at `place` of the same parent; 0 for none.
-pub fn left_of(rows: &[FlatRow], used: usize, place: usize) -> u32
-    requires within { (0 < place) × (place < used) × (used ≤ length rows.now) }
-    requires laid { Laid rows.now used }
-    requires plain { Plain rows.now used }
-    ensures { result ≡ last_where (child_row (at rows.now place).node.parent) (take place (records rows.now used)) }
+pub fn left_of(rows: &[FlatRow], place: usize) -> u32
+    requires within { (0 < place) × (place < length rows.now) }
+    requires laid { Laid rows.now (length rows.now) }
+    requires plain { Plain rows.now (length rows.now) }
+    ensures { result ≡ last_where (child_row (at rows.now place).node.parent) (take place (records rows.now (length rows.now))) }
 {
     let mut left = 0;
-    let mut c = place - rows[place].distance + 1;
-    while c < place {
-        let row = rows[c];
-        if !is_attribute(row.node.kind) {
+    let mut child = place - rows[place].distance + 1;
+    while child < place {
+        let row = rows[child];
+        if row.node.kind != Kind::Attribute {
             left = row.node.id;
         }
-        c += row.size;
+        child += row.size;
     }
     left
 }

@@ -1,7 +1,7 @@
 // Making a flat store. All memory is acquired here.
 ghost use Rattle.std.specs.Prelude.{◌≡◌, IfOk, vec_len};
 ghost use Rattle.document.specs.Tree.{nil};
-ghost use Rattle.flat.specs.Means.{means};
+ghost use Rattle.flat.specs.Document.{document};
 
 use super::FlatStore;
 use crate::rows::FlatRow;
@@ -29,19 +29,13 @@ const NO_ENTRY: RowOf = RowOf { id: 0, row: 0 };
 
 impl FlatStore {
     pub fn new(heap: Global) -> Result<FlatStore, AllocError>
-        ensures { IfOk result (λ s. (means s.rows.items s.used ≡ nil) × (vec_len s.rows ≡ 500)) }
+        ensures { IfOk result (λ s. (document s ≡ nil) × (vec_len s.rows ≡ 500)) }
     {
         FlatStore::with_room(heap, ROOM)
     }
 
     pub fn with_room(heap: Global, room: usize) -> Result<FlatStore, AllocError>
-        ensures { IfOk result (λ s. (means s.rows.items s.used ≡ nil) × (vec_len s.rows ≡ room)) }
-    {
-        FlatStore::without_rows(heap, room)
-    }
-
-    fn without_rows(heap: Global, room: usize) -> Result<FlatStore, AllocError>
-        ensures { IfOk result (λ s. (means s.rows.items s.used ≡ nil) × (vec_len s.rows ≡ room)) }
+        ensures { IfOk result (λ s. (document s ≡ nil) × (vec_len s.rows ≡ room)) }
     {
         let rows = vec![in heap; NO_ROW; room]?;
         let index = vec![in heap; NO_ENTRY; room]?;

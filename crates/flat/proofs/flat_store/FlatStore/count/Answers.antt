@@ -1,9 +1,0 @@
-use Rattle.std.proofs.Common.{sym, refl}
-use Rattle.flat.proofs.Holding.{R, X, fits, held}
-use Rattle.flat.proofs.Answering.{size_is}
-use Rattle.flat.proofs.flat_store.FlatStore.count.Goals as goal
-
-pub returns : goal.returns
-returns c =
-    let me = c.args.self.now in
-    (sym (size_is (R me) (X me) me.used (fits me) (held me)), refl)
