@@ -1,110 +1,85 @@
--- One turn of the loops that change rows and entries.
-use Rattle.std.proofs.Common.{◌≡◌, ℕ, ◌+◌, ◌-◌, ◌<◌, ◌≤◌, ◌⊎◌, List, length, get_or, set, sym, refl, ap, ◌∙◌, inl, inr, arith, length-set}
-use Rattle.std.proofs.lemmas.List.{get_or-set_same, get_or-set_other}
-use Rattle.std.proofs.lemmas.Bool.{cases_eq}
+-- Tables whose first entries were changed by their place, then moved by one.
+use Rattle.std.proofs.Common.{◌≡◌, ℕ, ◌+◌, ◌-◌, ◌<◌, ◌≤◌, ◌++◌, Bool, cond, not, eqb, ltb, ◌⊎◌, List, length, get_or, take, drop, set, ap, ◌∙◌, inl, inr, Some, None, Option, arith, length-append, length-drop, length-set}
+use Rattle.std.specs.List.{SameBelow, CopiedTo, prefix_len, position_or_len}
+use Rattle.std.specs.Option.{unwrap_or}
+use Rattle.std.proofs.lemmas.List.{get_or-set_same, get_or-set_other, get_or_append_left, get_or-append_right, get_or-drop, get_or-take, length-take-le}
+use Rattle.std.proofs.lemmas.List.Sums.{prefix_len-le-length, prefix_len_passes, prefix_len_stops}
+use Rattle.std.proofs.lemmas.Bool.{cases_lt, lt-ltb, le-ltb, eq-eqb, eqb-true, not-true, not-false, both_ways}
+use Rattle.records.specs.declared.nodes.Node.{Node}
+use Rattle.ordered.specs.declared.entries.RowOf.{RowOf}
 use Rattle.flat.specs.declared.rows.FlatRow.{FlatRow}
-use Rattle.flat.specs.Means.{no_row, at}
-use Rattle.flat.specs.Shifts.{drawn, lifted, Changed, Closed}
+use Rattle.flat.specs.Means.{no_row, no_entry, at, entry}
+use Rattle.flat.specs.Shifts.{shrunk, drawn, grown, lifted, new_row, Changed, Taken, Planted}
 
--- what a list holds after a write at i
-pub written : {A : Type 0} (d : A) (xs : List A) (i : ℕ) (x : A) (m : ℕ) → i < length xs → ((m ≡ i) × (get_or (set xs i x) m d ≡ x)) ⊎ ((m ≡ i → ⊥) × (get_or (set xs i x) m d ≡ get_or xs m d))
-written {A} d xs i x m h = go (cases_eq m i)
+-- a table whose first n entries are those of ys
+module _ {A : Type 0} (d : A) (xs ys : List A) (n : ℕ) (h : n ≤ length xs) (l : length ys ≡ n) where
+  front_long : length (ys ++ drop n xs) ≡ length xs
+  front_long = omega (arith, length-append ys (drop n xs), length-drop n xs)
+
+  front : (m : ℕ) → m < n → get_or (ys ++ drop n xs) m d ≡ get_or ys m d
+  front m b = get_or_append_left ys (drop n xs) d m (omega arith)
+
+  back : (m : ℕ) → n ≤ m → get_or (ys ++ drop n xs) m d ≡ get_or xs m d
+  back m b =
+      let e : n + (m - n) ≡ m = omega arith in
+      get_or-append_right ys (drop n xs) n m d l b ∙ get_or-drop n xs (m - n) d ∙ ap (λ (k : ℕ). get_or xs k d) e
+
+  pub changed_front : (f : ℕ → A → A) → ((m : ℕ) → m < n → get_or ys m d ≡ f m (get_or xs m d)) → Changed d xs f n (ys ++ drop n xs)
+  changed_front f e = record { long = front_long; low = λ m b. front m b ∙ e m b; high = λ m b. back m b }
+
+-- the place of the first entry of the row i, or n where there is none
+pub place_found : (X : List RowOf) (n i : ℕ) (r : Option ℕ) (p : ℕ) → n ≤ length X
+    → r ≡ cond (ltb (position_or_len (λ (x : RowOf). eqb x.row i) (take n X)) (length (take n X))) (Some (position_or_len (λ (x : RowOf). eqb x.row i) (take n X))) None
+    → p ≡ unwrap_or r n → (p < n → (entry X p).row ≡ i) × (n ≤ p → (k : ℕ) → k < n → (entry X k).row ≡ i → ⊥)
+place_found X n i r p h is u = (found, missed)
   where
-    go : (m ≡ i) ⊎ (m ≡ i → ⊥) → ((m ≡ i) × (get_or (set xs i x) m d ≡ x)) ⊎ ((m ≡ i → ⊥) × (get_or (set xs i x) m d ≡ get_or xs m d))
-    go (inl e) = inl (e, ap (λ (k : ℕ). get_or (set xs i x) k d) e ∙ get_or-set_same xs i x d h)
-    go (inr e) = inr (e, get_or-set_other xs i m x d e)
+    other : RowOf → Bool
+    other x = not (eqb x.row i)
 
-module _ {A : Type 0} (d : A) (xs : List A) (f : ℕ → A → A) where
-  pub changed_none : Changed d xs f 0 xs
-  changed_none = record { long = refl; low = λ m a. absurd (omega arith); high = λ m a. refl }
+    long : length (take n X) ≡ n
+    long = length-take-le n X h
 
-  pub changed_more : (i : ℕ) (ys : List A) (y : A) → i < length ys → y ≡ f i (get_or ys i d) → Changed d xs f i ys → Changed d xs f (i + 1) (set ys i y)
-  changed_more i ys y h e c =
+    e : p ≡ prefix_len other (take n X)
+    e = go (cases_lt (prefix_len other (take n X)) (length (take n X)))
+      where
+        go : (prefix_len other (take n X) < length (take n X)) ⊎ (length (take n X) ≤ prefix_len other (take n X)) → p ≡ prefix_len other (take n X)
+        go (inl l) = u ∙ rw (is, lt-ltb (prefix_len other (take n X)) (length (take n X)) l)
+        go (inr l) = u ∙ rw (is, le-ltb (prefix_len other (take n X)) (length (take n X)) l) (omega (arith, long, prefix_len-le-length other (take n X)))
+
+    found : p < n → (entry X p).row ≡ i
+    found l =
+        let q : prefix_len other (take n X) < length (take n X) = omega (arith, e, long) in
+        let t = prefix_len_stops other (take n X) no_entry q in
+        eqb-true (entry X p).row i (rw (e, ← get_or-take n X (prefix_len other (take n X)) no_entry (omega (arith, e))) (not-false (eqb (entry (take n X) (prefix_len other (take n X))).row i) t))
+
+    missed : n ≤ p → (k : ℕ) → k < n → (entry X k).row ≡ i → ⊥
+    missed l k b w =
+        let t = prefix_len_passes other (take n X) k no_entry (omega (arith, e)) in
+        both_ways (eqb (entry X k).row i) (rw (← get_or-take n X k no_entry b) (not-true (eqb (entry (take n X) k).row i) t)) (eq-eqb (entry X k).row i w)
+
+module _ (R T S : List FlatRow) (n i : ℕ) (h : n ≤ length R) (l : length T ≡ n) (long : length S ≡ length (T ++ drop n R)) where
+  pub taken_from : i < n → ((m : ℕ) → m ≤ i → m < n → at T m ≡ shrunk i m (at R m)) → ((m : ℕ) → i < m → m < n → at T m ≡ drawn i m (at R m))
+      → CopiedTo (T ++ drop n R) S (i + 1) i (n - (i + 1)) → SameBelow (T ++ drop n R) S i → Taken R n i S
+  taken_from b before behind copied same =
       record {
-        long = length-set ys i y ∙ c.long;
-        low = λ m a. low m a (written d ys i y m h);
-        high = λ m a. high m a (written d ys i y m h);
+        long = long ∙ front_long no_row R T n h l;
+        low = λ m a. let c : m < n = omega arith in same m no_row a ∙ front no_row R T n h l m c ∙ before m (omega arith) c;
+        high = λ m a c.
+            let e : i + 1 + (m - i) ≡ m + 1 = omega arith in
+            copied m no_row a (omega arith) ∙ ap (at (T ++ drop n R)) e ∙ front no_row R T n h l (m + 1) c ∙ behind (m + 1) (omega arith) c;
       }
-    where
-      low : (m : ℕ) → m < i + 1 → ((m ≡ i) × (get_or (set ys i y) m d ≡ y)) ⊎ ((m ≡ i → ⊥) × (get_or (set ys i y) m d ≡ get_or ys m d)) → get_or (set ys i y) m d ≡ f m (get_or xs m d)
-      low m a (inl w) = w.1 ∙ e ∙ ap (f i) (c.high i (omega arith)) ∙ ap (λ (k : ℕ). f k (get_or xs k d)) (sym w.0)
-      low m a (inr w) = let ne = w.0 in w.1 ∙ c.low m (omega arith)
 
-      high : (m : ℕ) → i + 1 ≤ m → ((m ≡ i) × (get_or (set ys i y) m d ≡ y)) ⊎ ((m ≡ i → ⊥) × (get_or (set ys i y) m d ≡ get_or ys m d)) → get_or (set ys i y) m d ≡ get_or xs m d
-      high m a (inl w) = absurd (omega (arith, w.0))
-      high m a (inr w) = w.1 ∙ c.high m (omega arith)
-
--- the rows up to k moved down by one
-pub record Closing (R : List FlatRow) (i k : ℕ) (S : List FlatRow) : Type 0 where
-  pub from : i < k
-  pub long : length S ≡ length R
-  pub low : (m : ℕ) → m < i → at S m ≡ at R m
-  pub moved : (m : ℕ) → i ≤ m → m + 1 < k → at S m ≡ drawn i (m + 1) (at R (m + 1))
-  pub rest : (m : ℕ) → k ≤ m + 1 → at S m ≡ at R m
-
-pub closing_none : (R : List FlatRow) (i : ℕ) → Closing R i (i + 1) R
-closing_none R i = record { from = omega arith; long = refl; low = λ m a. refl; moved = λ m a b. absurd (omega arith); rest = λ m a. refl }
-
-pub closing_more : (R S : List FlatRow) (i k : ℕ) (y : FlatRow) → k < length S → y ≡ drawn i k (at S k) → Closing R i k S → Closing R i (k + 1) (set S (k - 1) y)
-closing_more R S i k y h e c =
-    record {
-      from = omega (arith, c.from);
-      long = length-set S (k - 1) y ∙ c.long;
-      low = λ m a. low m a (written no_row S (k - 1) y m (omega arith));
-      moved = λ m a b. moved m a b (written no_row S (k - 1) y m (omega arith));
-      rest = λ m a. rest m a (written no_row S (k - 1) y m (omega arith));
-    }
-  where
-    Way : ℕ → Type 0
-    Way m = ((m ≡ k - 1) × (at (set S (k - 1) y) m ≡ y)) ⊎ ((m ≡ k - 1 → ⊥) × (at (set S (k - 1) y) m ≡ at S m))
-
-    low : (m : ℕ) → m < i → Way m → at (set S (k - 1) y) m ≡ at R m
-    low m a (inl w) = absurd (omega (arith, w.0, c.from))
-    low m a (inr w) = w.1 ∙ c.low m a
-
-    moved : (m : ℕ) → i ≤ m → m + 1 < k + 1 → Way m → at (set S (k - 1) y) m ≡ drawn i (m + 1) (at R (m + 1))
-    moved m a b (inl w) =
-        let u : k ≡ m + 1 = omega (arith, w.0, c.from) in
-        w.1 ∙ e ∙ ap (drawn i k) (c.rest k (omega arith)) ∙ ap (λ (j : ℕ). drawn i j (at R j)) u
-    moved m a b (inr w) = let ne = w.0 in w.1 ∙ c.moved m a (omega (arith, c.from))
-
-    rest : (m : ℕ) → k + 1 ≤ m + 1 → Way m → at (set S (k - 1) y) m ≡ at R m
-    rest m a (inl w) = absurd (omega (arith, w.0, c.from))
-    rest m a (inr w) = w.1 ∙ c.rest m (omega arith)
-
-pub closed_all : (R S : List FlatRow) (used i : ℕ) → Closing R i used S → Closed R used i S
-closed_all R S used i c = record { long = c.long; low = c.low; high = c.moved }
-
--- the rows from k on moved up by one
-pub record Opening (R : List FlatRow) (used i k : ℕ) (S : List FlatRow) : Type 0 where
-  pub from : i ≤ k
-  pub until : k ≤ used
-  pub long : length S ≡ length R
-  pub low : (m : ℕ) → m ≤ k → at S m ≡ at R m
-  pub moved : (m : ℕ) → k ≤ m → m < used → at S (m + 1) ≡ lifted i m (at R m)
-
-pub opening_none : (R : List FlatRow) (used i : ℕ) → i ≤ used → Opening R used i used R
-opening_none R used i h = record { from = h; until = omega arith; long = refl; low = λ m a. refl; moved = λ m a b. absurd (omega arith) }
-
-pub opening_more : (R S : List FlatRow) (used i k : ℕ) (y : FlatRow) → i < k → k < length S → y ≡ lifted i (k - 1) (at S (k - 1)) → Opening R used i k S → Opening R used i (k - 1) (set S k y)
-opening_more R S used i k y l h e c =
-    record {
-      from = omega arith;
-      until = omega (arith, c.until);
-      long = length-set S k y ∙ c.long;
-      low = λ m a. low m a (written no_row S k y m h);
-      moved = λ m a b. moved m a b (written no_row S k y (m + 1) h);
-    }
-  where
-    Way : ℕ → Type 0
-    Way m = ((m ≡ k) × (at (set S k y) m ≡ y)) ⊎ ((m ≡ k → ⊥) × (at (set S k y) m ≡ at S m))
-
-    low : (m : ℕ) → m ≤ k - 1 → Way m → at (set S k y) m ≡ at R m
-    low m a (inl w) = absurd (omega (arith, w.0))
-    low m a (inr w) = w.1 ∙ c.low m (omega arith)
-
-    moved : (m : ℕ) → k - 1 ≤ m → m < used → Way (m + 1) → at (set S k y) (m + 1) ≡ lifted i m (at R m)
-    moved m a b (inl w) =
-        let u : k - 1 ≡ m = omega (arith, w.0) in
-        w.1 ∙ e ∙ ap (lifted i (k - 1)) (c.low (k - 1) (omega arith)) ∙ ap (λ (j : ℕ). lifted i j (at R j)) u
-    moved m a b (inr w) = let ne = w.0 in w.1 ∙ c.moved m (omega arith) b
+  pub planted_from : (q : ℕ) (x : Node) → i ≤ n → n < length R → ((m : ℕ) → m < i → at T m ≡ grown q m (at R m)) → ((m : ℕ) → i ≤ m → m < n → at T m ≡ lifted i m (at R m))
+      → CopiedTo (T ++ drop n R) S i (i + 1) (n - i) → SameBelow (T ++ drop n R) S (i + 1) → Planted R n i q x (set S i (new_row x i q))
+  planted_from q x b room before behind copied same =
+      record {
+        long = length-set S i (new_row x i q) ∙ long ∙ front_long no_row R T n h l;
+        low = λ m a.
+            let ne : m ≡ i → ⊥ = λ e. omega arith in
+            get_or-set_other S i m (new_row x i q) no_row ne ∙ same m no_row (omega arith) ∙ front no_row R T n h l m (omega arith) ∙ before m a;
+        here = get_or-set_same S i (new_row x i q) no_row (omega (arith, long, front_long no_row R T n h l));
+        high = λ m a c.
+            let ne : m + 1 ≡ i → ⊥ = λ e. omega arith in
+            let e : i + (m + 1 - (i + 1)) ≡ m = omega arith in
+            get_or-set_other S i (m + 1) (new_row x i q) no_row ne ∙ copied (m + 1) no_row (omega arith) (omega arith) ∙ ap (at (T ++ drop n R)) e ∙ front no_row R T n h l m c ∙ behind m a c;
+      }

@@ -7,6 +7,15 @@ use Rattle.ordered.specs.Entries.{by_identifier}
 use Rattle.flat.specs.declared.rows.FlatRow.{FlatRow}
 use Rattle.flat.specs.Means.{no_entry, at, entry}
 
+-- ---- each entry of a table changed by its place
+
+abbrev pub CanChange : {A : Type 0} → (ℕ → A → Type 0) → List A → Type 0
+CanChange {A} pre xs = (m : ℕ) (d : A) → m < length xs → pre m (slice_index_or xs m d)
+
+pub record EachChanged {A : Type 0} (post : ℕ → A → A → Type 0) (xs ys : List A) : Type 0 where
+  pub long : length ys ≡ length xs
+  pub each : (m : ℕ) (d : A) → m < length xs → post m (slice_index_or xs m d) (slice_index_or ys m d)
+
 -- ---- a row i without others in its subtree goes
 
 -- the row at m, smaller by one if it counts the row i
@@ -49,25 +58,13 @@ pub record Planted (rows : List FlatRow) (used i q : ℕ) (x : Node) (left : Lis
 abbrev pub raised : ℕ → RowOf → RowOf
 raised i e = cond (nat_le i e.row) (record { id = e.id; row = e.row + 1 }) e
 
--- ---- the parts of a take and of a put, each by one loop
+-- ---- the index, once a row is gone or has come
 
 -- what stands before i changed by its place, and nothing else
 pub record Changed {A : Type 0} (none : A) (xs : List A) (f : ℕ → A → A) (i : ℕ) (ys : List A) : Type 0 where
   pub long : length ys ≡ length xs
   pub low : (m : ℕ) → m < i → slice_index_or ys m none ≡ f m (slice_index_or xs m none)
   pub high : (m : ℕ) → i ≤ m → slice_index_or ys m none ≡ slice_index_or xs m none
-
--- the rows behind i moved down by one
-pub record Closed (rows : List FlatRow) (used i : ℕ) (left : List FlatRow) : Type 0 where
-  pub long : length left ≡ length rows
-  pub low : (m : ℕ) → m < i → at left m ≡ at rows m
-  pub high : (m : ℕ) → i ≤ m → m + 1 < used → at left m ≡ drawn i (m + 1) (at rows (m + 1))
-
--- the rows from i on moved up by one
-pub record Opened (rows : List FlatRow) (used i : ℕ) (left : List FlatRow) : Type 0 where
-  pub long : length left ≡ length rows
-  pub low : (m : ℕ) → m < i → at left m ≡ at rows m
-  pub high : (m : ℕ) → i ≤ m → m < used → at left (m + 1) ≡ lifted i m (at rows m)
 
 -- the entries of the rows behind i lowered; at is the place of the entry of the row i
 pub record Lowered (index : List RowOf) (used i : ℕ) (left : List RowOf) (at : ℕ) : Type 0 where
