@@ -38,7 +38,7 @@ impl Reading for FlatStore {
     }
 
     fn len(&self) -> usize {
-        self.used
+        self.in_use().len()
     }
 
     fn root(&self) -> u32 {

@@ -7,9 +7,6 @@ pub returns-then-is_ok : goal.returns-then-is_ok
 returns-then-is_ok c =
     known c.args.self.now c.args.node c.args.left (sym c.is_formed.ensures ∙ c.if-not-is_formed.false) c.row_with.result (sym c.is_ok.ensures.value ∙ c.if-is_ok.true) c.row_with.ensures
 
-pub spot-requires : goal.spot-requires
-spot-requires c = unknown c.args.self.now c.args.node c.args.left c.row_with.result (sym c.is_ok.ensures.value ∙ c.if-is_ok.false) c.row_with.ensures
-
 pub returns-then-self-len : goal.returns-then-self-len
 returns-then-self-len c =
     let me = c.args.self.now in

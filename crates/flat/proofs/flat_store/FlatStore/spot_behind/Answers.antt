@@ -1,4 +1,4 @@
-use Rattle.std.proofs.Common.{◌+◌, ap, ◌∙◌, sym, subst, arith}
+use Rattle.std.proofs.Common.{◌+◌, ap, ◌∙◌, sym, subst}
 use Rattle.std.proofs.lemmas.Bool.{both_ways}
 use Rattle.document.specs.Table.{is_attribute}
 use Rattle.flat.specs.declared.rows.FlatRow.{FlatRow}
@@ -9,14 +9,6 @@ use Rattle.flat.proofs.Holding.{R, X, fits, held, read_at}
 use Rattle.flat.proofs.Spotting.{behind_suited, unfit_behind}
 use Rattle.flat.proofs.flat_store.FlatStore.spot_behind.Goals as goal
 use Rattle.flat.proofs.flat_store.FlatStore.spot_behind.Goals.{else-here-node-via-then-here-node+else-ne, else-here-node-via-else-here-node}
-
-pub overflow_add-result : goal.overflow_add-result
-overflow_add-result c =
-    let me = c.args.self.now in
-    let w = c.in-Ok.ensures in
-    let here = ap (λ (x : FlatRow). x.size) (read_at me c.in-Ok.row c.index.result.now w.0 c.index.ensures) in
-    let s = ((held me).laid.sized c.in-Ok.row w.0).1 in
-    omega arith
 
 pub returns-then-ne : goal.returns-then-ne
 returns-then-ne c =

@@ -21,11 +21,6 @@ put_in-requires c =
       distances = rw c.deref_mut.ensures.value (λ k a b. ((held me).laid.backward k (behind_root (R me) (X me) me.used (fits me) (held me) room c.args.node c.args.left g w.1 k a b) b).1);
     }
 
-pub enlist-requires : goal.enlist-requires
-enlist-requires c =
-    let me = c.args.self.now in
-    record { within = omega arith; rows = rw c.deref_mut-2.ensures.value (λ k b. omega (arith, ((held me).indexed.leading k b).0)) }
-
 pub invariant_of-self : goal.invariant_of-self
 invariant_of-self c =
     let me = c.args.self.now in

@@ -6,11 +6,6 @@ use Rattle.flat.proofs.Holding.{R, X, fits, index_fits, held}
 use Rattle.flat.proofs.Removing.{taken_stored, taken_means}
 use Rattle.flat.proofs.flat_store.writing.FlatStoreWriting.take.Goals as goal
 
-pub take_out-requires : goal.take_out-requires
-take_out-requires c =
-    let me = c.args.self.now in
-    record { within = (c.in_ok-row.ensures.0, omega arith); distances = rw c.deref_mut.ensures.value (held me).laid.backward }
-
 pub invariant_of-self : goal.invariant_of-self
 invariant_of-self c =
     let me = c.args.self.now in
