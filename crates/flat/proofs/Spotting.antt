@@ -1,5 +1,6 @@
 -- Where a new node may stand: the tests, and the places that they lead to.
-use Rattle.std.proofs.Common.{◌≡◌, ℕ, zero, suc, ◌+◌, ◌<◌, ◌≤◌, Bool, true, false, cond, not, ◌&&◌, eqb, List, length, Some, None, Option, sym, refl, ap, ◌∙◌, inl, inr, arith}
+use Rattle.std.proofs.Common.{◌≡◌, ℕ, zero, suc, ◌+◌, ◌<◌, ◌≤◌, Bool, true, false, not, ◌&&◌, eqb, List, length, None, Option, sym, refl, ap, ◌∙◌, inl, inr, arith}
+use Rattle.std.specs.Bool.{then_some}
 use Rattle.std.proofs.lemmas.Bool.{eq-eqb, ne_eqb, eqb-true}
 use Rattle.records.specs.declared.nodes.Kind.{Kind}
 use Rattle.records.specs.declared.nodes.Kind.TheVariants.{Element, Attribute, Text}
@@ -28,7 +29,7 @@ element_child Text e = refl
 
 -- the bound of a walk over attributes
 abbrev pub bound_of : Node → Option ℕ
-bound_of x = cond (is_attribute x.kind) (Some x.id) None
+bound_of x = then_some (is_attribute x.kind) x.id
 
 module _ (R : List FlatRow) (X : List RowOf) (n : ℕ) (h : n ≤ length R) (s : Stored R X n) where
   L : Laid R n
@@ -83,7 +84,7 @@ module _ (R : List FlatRow) (X : List RowOf) (n : ℕ) (h : n ≤ length R) (s :
               let g : k < length (nodes R n) = omega (arith, nodes_long R n h) in
               omega (arith, times_at x.id (nodes R n) k g (ap (λ (y : Node). y.id) (node_at R n k h b) ∙ e), listed_times (means R n) s.kept (nodes R n) s.listed x.id, unseen x.id 0 0 (means R n) new)
 
-          by : (b : Bool) → is_attribute x.kind ≡ b → Behind R n i (at R i).node.id (cond b (Some x.id) None) r → r ≡ put_place (means R n) x 0
+          by : (b : Bool) → is_attribute x.kind ≡ b → Behind R n i (at R i).node.id (then_some b x.id) r → r ≡ put_place (means R n) x 0
           by true e v = attribute_place R X n h s i l child x.id r fresh v ∙ rw (other, e, same)
           by false e v = first_place R X n h s i l child r v ∙ rw (other, e, same)
 

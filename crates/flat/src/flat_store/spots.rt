@@ -1,11 +1,9 @@
 // Where a new node may stand.
-ghost use Rattle.std.specs.Prelude.{◌≡◌, ◌<◌, true, false, None, ◌≢◌};
+ghost use Rattle.std.specs.Prelude.{◌≡◌, false, None, ◌≢◌};
 ghost use Rattle.document.specs.Table.{is_attribute};
 ghost use Rattle.store.specs.Views.{view};
-ghost use Rattle.store.specs.Says.{is_element};
-ghost use Rattle.flat.specs.Means.{at};
-ghost use Rattle.flat.specs.Document.{document, id_at};
-ghost use Rattle.flat.specs.Spots.{Suited, Spotted};
+ghost use Rattle.flat.specs.Document.{document};
+ghost use Rattle.flat.specs.Spots.{ParentAt, SuitedAt, Spotted};
 
 use super::FlatStore;
 use crate::rows::Spot;
@@ -29,13 +27,11 @@ impl FlatStore {
 
     // Behind the child `left` of the row `parent`.
     fn spot_behind(&self, parent: usize, node: Node, left: u32) -> Option<Spot>
-        requires element { (parent < self.now.used) × (id_at self.now parent ≡ node.parent) × (is_element (at self.now.rows.items parent).node.kind ≡ true) }
+        requires element { ParentAt self.now parent node }
         requires child { (is_attribute node.kind ≡ false) × (left ≢ 0) }
         ensures { Spotted self.now node left result }
     {
-        let Ok(row) = self.row_with(left) else {
-            return None;
-        };
+        let row = self.row_with(left).ok()?;
         let here = self.rows[row];
         if here.node.parent == node.parent && here.node.kind != Kind::Attribute {
             Some(Spot {
@@ -49,15 +45,11 @@ impl FlatStore {
 
     // Right behind the attributes of the row `parent`; an attribute where its identifier belongs.
     fn first_spot(&self, parent: usize, node: Node) -> Spot
-        requires element { (parent < self.now.used) × (id_at self.now parent ≡ node.parent) × (is_element (at self.now.rows.items parent).node.kind ≡ true) }
+        requires element { ParentAt self.now parent node }
         requires fresh { view (document self.now) node.id ≡ None }
-        ensures { Suited self.now.rows.items self.now.used node 0 result }
+        ensures { SuitedAt self.now node 0 result }
     {
-        let bound = if node.kind == Kind::Attribute {
-            Some(node.id)
-        } else {
-            None
-        };
+        let bound = (node.kind == Kind::Attribute).then_some(node.id);
         Spot {
             parent,
             place: behind_attributes(self.in_use(), parent, bound),
@@ -72,9 +64,7 @@ impl FlatStore {
         if node.parent == 0 {
             return self.root_spot(node, left);
         }
-        let Ok(parent) = self.row_with(node.parent) else {
-            return None;
-        };
+        let parent = self.row_with(node.parent).ok()?;
         if self.rows[parent].node.kind != Kind::Element {
             return None;
         }
