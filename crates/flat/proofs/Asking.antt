@@ -3,7 +3,7 @@ use Rattle.std.proofs.Common.{◌≡◌, ℕ, zero, suc, ◌+◌, ◌-◌, ◌<�
 use Rattle.std.specs.List.{prefix_len}
 use Rattle.std.proofs.lemmas.List.{get_or-drop}
 use Rattle.std.proofs.lemmas.List.Sums.{prefix_len-le-length, prefix_len_passes, prefix_len_stops}
-use Rattle.std.proofs.lemmas.Bool.{cases_lt, cases_eq, both_ways, eq-eqb, ne_eqb, eqb-true, lt-ltb, le-ltb, and_left, and_parts, and_from}
+use Rattle.std.proofs.lemmas.Bool.{cases_lt, cases_eq, both_ways, eq-eqb, ne_eqb, eqb-true, lt-ltb, le-ltb, and_left, and_right, and_parts, and_from}
 use Rattle.records.specs.declared.nodes.Node.{Node}
 use Rattle.document.specs.Table.{is_attribute}
 use Rattle.store.specs.Listed.{child_row, attribute_row, first_where, last_where}
@@ -13,10 +13,6 @@ use Rattle.flat.specs.Walks.{child_at, attribute_at, passes, Behind, Walked}
 use Rattle.flat.proofs.Tables.{nth, first_from, none_from, first_beyond, last_step, last_skip}
 use Rattle.flat.proofs.Standing.{nodes_long, node_at}
 use Rattle.flat.proofs.Families.{up_before, parent_above, outside_child, inside_other, within_parent, sibling_up, attribute_run, attribute_bare}
-
-and_right : (a b : Bool) → b ≡ false → (a && b) ≡ false
-and_right true b e = e
-and_right false b e = refl
 
 -- the count of rows that pass behind a row leads behind its attributes
 pub behind_from : (R : List FlatRow) (i p : ℕ) (b : Option ℕ) (m : ℕ) → i < length R → m ≡ prefix_len (λ (r : FlatRow). passes p b r.node) (drop (i + 1) R)
@@ -120,8 +116,8 @@ module _ (R : List FlatRow) (n : ℕ) (h : n ≤ length R) (L : Laid R n) (P : P
           absurd (kinds (is_attribute (at R m).node.kind) (rw (eq-eqb (at R m).node.parent p y) at e) (rw (eq-eqb (at R m).node.parent p y) at (na k)))
         where
           kinds : (b : Bool) → not b ≡ false → b ≡ false → ⊥
-          kinds true u w = let z : ◌≡◌ {A = ℕ} 0 1 = cc in omega arith
-          kinds false u w = let z : ◌≡◌ {A = ℕ} 0 1 = cc in omega arith
+          kinds true u w = cc
+          kinds false u w = cc
 
   pub first_child : (i r : ℕ) → i < n → Behind R n i (at R i).node.id None r → child_at R n r (at R i).node.id ≡ first_where (child_row (at R i).node.id) N
   first_child i r l w =

@@ -1,5 +1,5 @@
 -- What a store holds is a fact without choices: it can be had from its truncation.
-use Rattle.std.proofs.Common.{◌≡◌, ℕ, Bool, true, false, ◌&&◌, ltb, List, [], ◌∷◌, refl, ap, arith}
+use Rattle.std.proofs.Common.{◌≡◌, ℕ, Bool, true, false, ◌&&◌, ltb, List, [], ◌∷◌, refl, ap}
 use mathlib.Core.Logic.{∥∥₁_elim}
 use base.Stored.{coded_list, coded_bool}
 use denote.Struct.Props.{props, ≡_prop}
@@ -51,7 +51,7 @@ one_test (node r as' k nil) = is_element r.kind
 one_test (node r as' k (node s bs l f)) = false
 
 never : {X : Type 0} → false ≡ true → X
-never e = let z : ◌≡◌ {A = ℕ} 0 1 = cc in absurd (omega arith)
+never e = cc
 
 is_attribute_from : (c : Kind) → is_attribute c ≡ true → c ≡ Attribute
 is_attribute_from Element e = never e

@@ -23,11 +23,11 @@ refused me t says e h = (h, λ new. ap (λ (a : Answer). after a new (document m
 -- the row with another name or value
 abbrev pub with_name : ℕ → FlatRow → FlatRow
 with_name m r =
-    record { node = record { id = r.node.id; parent = r.node.parent; kind = r.node.kind; name = m; value = r.node.value }; distance = r.distance; size = r.size }
+    record r { node = record r.node { name = m } }
 
 abbrev pub with_value : ℕ → FlatRow → FlatRow
 with_value v r =
-    record { node = record { id = r.node.id; parent = r.node.parent; kind = r.node.kind; name = r.node.name; value = v }; distance = r.distance; size = r.size }
+    record r { node = record r.node { value = v } }
 
 pick : {Y : Type 0} (b : Bool) (x y : Y) (P : Y → Type 0) → P x → P y → P (cond b x y)
 pick true x y P p q = p

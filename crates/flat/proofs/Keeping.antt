@@ -77,7 +77,7 @@ pub record Edits (t : ℕ) (f : Node → Node) : Type 0 where
   pub kind : (x : Node) → (f x).kind ≡ x.kind
 
 abbrev pub edited_row : (Node → Node) → FlatRow → FlatRow
-edited_row f r = record { node = f r.node; distance = r.distance; size = r.size }
+edited_row f r = record r { node = f r.node }
 
 module _ (R : List FlatRow) (X : List RowOf) (n : ℕ) (h : n ≤ length R) (s : Stored R X n) (i : ℕ) (l : i < n) (f : Node → Node) (q : Edits (at R i).node.id f) where
   abbrev S : List FlatRow

@@ -56,10 +56,10 @@ module _ (me : FlatStore) (x : Node) (left : ℕ) where
 
   pub known : formed_node x ≡ true → (r : Result ℕ StoreFault) → is_ok r ≡ true → Sought me x.id r → PutJudged me x left (Err Known)
   known f (Ok i) e w = refused_put Known (rw (f, (sight (all me) (index me) me.used (enough me) (held me) x.id i w.0 w.1).seen))
-  known f (Err e') e w = let z : ◌≡◌ {A = ℕ} 0 1 = cc in absurd (omega arith)
+  known f (Err e') e w = cc
 
   pub unknown : (r : Result ℕ StoreFault) → is_ok r ≡ false → Sought me x.id r → view (document me) x.id ≡ None
-  unknown (Ok i) e w = let z : ◌≡◌ {A = ℕ} 0 1 = cc in absurd (omega arith)
+  unknown (Ok i) e w = cc
   unknown (Err e') e w = w.1.seen
 
   module _ (formed : formed_node x ≡ true) (new : view (document me) x.id ≡ None) where

@@ -24,7 +24,7 @@ use Rattle.flat.proofs.Gapping.{attributes_gap, sibling_gap}
 
 element_child : (c : Kind) → is_element c ≡ true → is_attribute c ≡ false
 element_child Element e = refl
-element_child Attribute e = let z : ◌≡◌ {A = ℕ} 0 1 = cc in absurd (omega arith)
+element_child Attribute e = cc
 element_child Text e = refl
 
 -- the bound of a walk over attributes

@@ -20,11 +20,11 @@ pub record EachChanged {A : Type 0} (post : ℕ → A → A → Type 0) (xs ys :
 
 -- the row at m, smaller by one if it counts the row i
 abbrev pub shrunk : ℕ → ℕ → FlatRow → FlatRow
-shrunk i m r = cond (nat_lt i (m + r.size)) (record { node = r.node; distance = r.distance; size = r.size - 1 }) r
+shrunk i m r = cond (nat_lt i (m + r.size)) (record r { size = r.size - 1 }) r
 
 -- the row at k, which moves down by one: nearer to its parent if that stands before i
 abbrev pub drawn : ℕ → ℕ → FlatRow → FlatRow
-drawn i k r = cond (nat_lt (k - r.distance) i) (record { node = r.node; distance = r.distance - 1; size = r.size }) r
+drawn i k r = cond (nat_lt (k - r.distance) i) (record r { distance = r.distance - 1 }) r
 
 pub record Taken (rows : List FlatRow) (used i : ℕ) (left : List FlatRow) : Type 0 where
   pub long : length left ≡ length rows
@@ -33,17 +33,17 @@ pub record Taken (rows : List FlatRow) (used i : ℕ) (left : List FlatRow) : Ty
 
 -- the entry of a row behind i
 abbrev pub lowered : ℕ → RowOf → RowOf
-lowered i e = cond (nat_lt i e.row) (record { id = e.id; row = e.row - 1 }) e
+lowered i e = cond (nat_lt i e.row) (record e { row = e.row - 1 }) e
 
 -- ---- a row comes to the place i, below the row q
 
 -- the row at m, larger by one if it counts the row q
 abbrev pub grown : ℕ → ℕ → FlatRow → FlatRow
-grown q m r = cond (nat_le m q && nat_lt q (m + r.size)) (record { node = r.node; distance = r.distance; size = r.size + 1 }) r
+grown q m r = cond (nat_le m q && nat_lt q (m + r.size)) (record r { size = r.size + 1 }) r
 
 -- the row at k, which moves up by one: farther from its parent if that stands before i
 abbrev pub lifted : ℕ → ℕ → FlatRow → FlatRow
-lifted i k r = cond (nat_lt (k - r.distance) i) (record { node = r.node; distance = r.distance + 1; size = r.size }) r
+lifted i k r = cond (nat_lt (k - r.distance) i) (record r { distance = r.distance + 1 }) r
 
 abbrev pub new_row : Node → ℕ → ℕ → FlatRow
 new_row x i q = record { node = x; distance = i - q; size = 1 }
@@ -56,7 +56,7 @@ pub record Planted (rows : List FlatRow) (used i q : ℕ) (x : Node) (left : Lis
 
 -- the entry of a row from i on
 abbrev pub raised : ℕ → RowOf → RowOf
-raised i e = cond (nat_le i e.row) (record { id = e.id; row = e.row + 1 }) e
+raised i e = cond (nat_le i e.row) (record e { row = e.row + 1 }) e
 
 -- ---- the index, once a row is gone or has come
 
