@@ -50,33 +50,30 @@ one_test nil = true
 one_test (node r as' k nil) = is_element r.kind
 one_test (node r as' k (node s bs l f)) = false
 
-never : {X : Type 0} → false ≡ true → X
-never e = cc
-
 is_attribute_from : (c : Kind) → is_attribute c ≡ true → c ≡ Attribute
-is_attribute_from Element e = never e
+is_attribute_from Element e = cc
 is_attribute_from Attribute e = refl
-is_attribute_from Text e = never e
+is_attribute_from Text e = cc
 
 is_element_from : (c : Kind) → is_element c ≡ true → c ≡ Element
 is_element_from Element e = refl
-is_element_from Attribute e = never e
-is_element_from Text e = never e
+is_element_from Attribute e = cc
+is_element_from Text e = cc
 
 no_labels_from : (as' : List Label) → no_labels as' ≡ true → as' ≡ []
 unfolding no_labels
 no_labels_from [] e = refl
-no_labels_from (r ∷ l) e = never e
+no_labels_from (r ∷ l) e = cc
 
 no_trees_from : (k : Forest) → no_trees k ≡ true → k ≡ nil
 unfolding no_trees
 no_trees_from nil e = refl
-no_trees_from (node r as' k f) e = never e
+no_trees_from (node r as' k f) e = cc
 
 holds_from : (c : Kind) (as' : List Label) (k : Forest) → holds_test c as' k ≡ true → Holds c as' k
 unfolding holds_test
 holds_from Element as' k e = tt
-holds_from Attribute as' k e = never e
+holds_from Attribute as' k e = cc
 holds_from Text as' k e = let p = and_parts (no_labels as') (no_trees k) e in (no_labels_from as' p.0, no_trees_from k p.1)
 
 holds_to : (c : Kind) (as' : List Label) (k : Forest) → Holds c as' k → holds_test c as' k ≡ true
@@ -132,7 +129,7 @@ one_from : (d : Forest) → one_test d ≡ true → AtMostOne d
 unfolding one_test
 one_from nil e = tt
 one_from (node r as' k nil) e = is_element_from r.kind e
-one_from (node r as' k (node s bs l f)) e = never e
+one_from (node r as' k (node s bs l f)) e = cc
 
 one_to : (d : Forest) → AtMostOne d → one_test d ≡ true
 unfolding one_test

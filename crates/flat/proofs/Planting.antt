@@ -58,7 +58,7 @@ module _ (R S : List FlatRow) (n q i : ℕ) (x : Node) (L : Laid R n) (P : Plain
           let e : at S m ≡ at R m = T.low m a ∙ rw (leb_false m q c) in
           still e (G.clear m c a, (λ y. absurd (omega arith)), ap (λ (r : FlatRow). r.size) e)
       go (inr c) (inl d) =
-          let e : at S m ≡ record { node = (at R m).node; distance = (at R m).distance; size = (at R m).size + 1 } = T.low m a ∙ rw (leb_true m q c, lt-ltb q (m + (at R m).size) d) in
+          let e : at S m ≡ record (at R m) { size = (at R m).size + 1 } = T.low m a ∙ rw (leb_true m q c, lt-ltb q (m + (at R m).size) d) in
           record { node = ap (λ (r : FlatRow). r.node) e; distance = ap (λ (r : FlatRow). r.distance) e; size = inl (c, d, ap (λ (r : FlatRow). r.size) e) }
       go (inr c) (inr d) =
           let e : at S m ≡ at R m = T.low m a ∙ rw (leb_true m q c, le-ltb q (m + (at R m).size) d) in
@@ -113,7 +113,7 @@ module _ (R S : List FlatRow) (n q i : ℕ) (x : Node) (L : Laid R n) (P : Plain
 
       go : (up R j < i) ⊎ (i ≤ up R j) → High k
       go (inl c) =
-          let e : at S k ≡ record { node = (at R j).node; distance = (at R j).distance + 1; size = (at R j).size } = moves ∙ rw (lt-ltb (up R j) i c) in
+          let e : at S k ≡ record (at R j) { distance = (at R j).distance + 1 } = moves ∙ rw (lt-ltb (up R j) i c) in
           let d = ap (λ (r : FlatRow). r.distance) e in
           record {
             node = ap (λ (r : FlatRow). r.node) e;

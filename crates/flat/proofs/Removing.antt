@@ -126,8 +126,7 @@ module _ (R : List FlatRow) (X : List RowOf) (n : ℕ) (h : n ≤ length R) (s :
         go (inl e) = e
         go (inr e) =
             let u : cond false (Ok tt) (Err Unsuited) ≡ take_says (means R n) (at R i).node.id = sym (take_judged (at R i).node.id refl ∙ rw (ne_eqb (at R i).size 1 e)) in
-            let z : ◌≡◌ {A = ℕ} 0 1 = cc in
-            absurd (omega arith)
+            cc
 
     stands : (k j : ℕ) → k < n → (k < i → j ≡ k) → (i < k → j + 1 ≡ k) → (k ≡ i → ⊥) → (at S j).node ≡ (at R k).node
     stands = taken_node R S n i l L P one T

@@ -30,7 +30,7 @@ module _ (R S : List FlatRow) (n i : ℕ) (l : i < n) (L : Laid R n) (P : Plain 
     where
       go : (i < m + (at R m).size) ⊎ (m + (at R m).size ≤ i) → Low m
       go (inl c) =
-          let e : at S m ≡ record { node = (at R m).node; distance = (at R m).distance; size = (at R m).size - 1 } = T.low m a ∙ rw (lt-ltb i (m + (at R m).size) c) in
+          let e : at S m ≡ record (at R m) { size = (at R m).size - 1 } = T.low m a ∙ rw (lt-ltb i (m + (at R m).size) c) in
           record {
             node = ap (λ (r : FlatRow). r.node) e;
             distance = ap (λ (r : FlatRow). r.distance) e;
@@ -66,7 +66,7 @@ module _ (R S : List FlatRow) (n i : ℕ) (l : i < n) (L : Laid R n) (P : Plain 
 
       go : (up R (m + 1) < i) ⊎ (i ≤ up R (m + 1)) → High m
       go (inl c) =
-          let e : at S m ≡ record { node = (at R (m + 1)).node; distance = (at R (m + 1)).distance - 1; size = (at R (m + 1)).size } = T.high m a b ∙ rw (lt-ltb (up R (m + 1)) i c) in
+          let e : at S m ≡ record (at R (m + 1)) { distance = (at R (m + 1)).distance - 1 } = T.high m a b ∙ rw (lt-ltb (up R (m + 1)) i c) in
           let d = ap (λ (r : FlatRow). r.distance) e in
           record {
             node = ap (λ (r : FlatRow). r.node) e;
