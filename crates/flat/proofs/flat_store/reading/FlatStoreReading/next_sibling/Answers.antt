@@ -1,4 +1,5 @@
-use Rattle.std.proofs.Common.{◌≡◌, ◌+◌, Ok, ap, ◌∙◌}
+use Rattle.std.proofs.Common.{◌≡◌, ◌+◌, Ok, ap, ◌∙◌, arith}
+use Rattle.flat.specs.declared.rows.FlatRow.{FlatRow}
 use Rattle.flat.specs.Means.{at}
 use Rattle.flat.specs.Walks.{child_at}
 use Rattle.flat.proofs.OfKind.{attribute_eq}
@@ -13,6 +14,15 @@ returns-then-eq c =
     let w = c.in_ok-row.ensures in
     let here = read_at me i c.index.result.now w.0 c.index.ensures in
     rw w.1 at (no_sibling (R me) (X me) me.used (fits me) (held me) i w.0 (attribute_eq here c.eq.ensures c.if-eq.true))
+
+pub overflow_add-row : goal.overflow_add-row
+overflow_add-row c =
+    let me = c.args.self.now in
+    let w = c.in_ok-row.ensures in
+    let here = read_at me c.in_ok-row.row c.index.result.now w.0 c.index.ensures in
+    let s = ((held me).laid.sized c.in_ok-row.row w.0).1 in
+    let e = ap (λ (x : FlatRow). x.size) here in
+    omega arith
 
 pub returns : goal.returns
 returns c =

@@ -6,6 +6,9 @@ use Rattle.flat.proofs.Holding.{R, X, fits, index_fits, held}
 use Rattle.flat.proofs.Removing.{taken_stored, taken_means}
 use Rattle.flat.proofs.flat_store.writing.FlatStoreWriting.take.Goals as goal
 
+pub take_out-requires-clause-distances : goal.take_out-requires-clause-distances
+take_out-requires-clause-distances c = rw c.deref_mut.ensures.value (held c.args.self.now).laid.backward
+
 pub invariant_of-self : goal.invariant_of-self
 invariant_of-self c =
     let me = c.args.self.now in
