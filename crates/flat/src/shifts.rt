@@ -1,4 +1,4 @@
-// Rows and entries that make room, or close up.
+// Rows and entries that make room, or close up. Each table comes whole, with the number of its entries in use: a new one takes the place behind them.
 ghost use Rattle.std.specs.Prelude.{◌≡◌, ℕ, ◌<◌, ◌≤◌, length};
 ghost use Rattle.flat.specs.Means.{at, entry as entry_at};
 ghost use Rattle.flat.specs.Shifts.{CanChange, EachChanged, shrunk as shrinks, drawn as draws, lowered as lowers, grown as grows, lifted as lifts, raised as raises, Taken, Unlisted, Planted, Enlisted};

@@ -50,7 +50,7 @@ pub fn behind_attributes(rows: &[FlatRow], place: usize, bound: Option<u32>) -> 
     place + 1 + attributes
 }
 
-// The last child before the row at `place` of the same parent; 0 for none.
+// The last child before the row at `place` of the same parent, by leaps over subtrees; 0 for none.
 pub fn left_of(rows: &[FlatRow], place: usize) -> u32
     requires within { (0 < place) × (place < length rows.now) }
     requires laid { Laid rows.now (length rows.now) }
