@@ -4,7 +4,7 @@ ghost use Rattle.flat.specs.Means.{at, entry as entry_at};
 ghost use Rattle.flat.specs.Shifts.{CanChange, EachChanged, shrunk as shrinks, drawn as draws, lowered as lowers, grown as grows, lifted as lifts, raised as raises, Taken, Unlisted, Planted, Enlisted};
 
 use crate::rows::{FlatRow, Spot};
-use ordered::{RowOf, insert_row, remove_row};
+use ordered::{RowOf, insert, remove};
 use records::Node;
 
 // Changes each entry by its place.
@@ -86,7 +86,7 @@ pub fn unlist(index: &mut [RowOf], used: usize, gone: usize)
         .position(|entry| entry.row == gone)
         .unwrap_or(used);
     change_each(&mut index[..used], |_, entry| lowered(entry, gone));
-    let _ = remove_row(index, used, place);
+    let _ = remove(index, used, place);
 }
 
 // The row at `place`, larger by one if it counts the row `parent`.
@@ -162,5 +162,5 @@ pub fn enlist(index: &mut [RowOf], used: usize, entry: RowOf)
     ensures { Enlisted index.old used entry index.new }
 {
     change_each(&mut index[..used], |_, old| raised(old, entry.row));
-    let _ = insert_row(index, used, entry);
+    let _ = insert(index, used, entry);
 }

@@ -12,9 +12,9 @@ returns c =
     let w = c.change_each.ensures in
     let l : length (take n X) ≡ n = length-take-le n X c.requires.within in (
       c.change_each.new.table ++ drop n X,
-      c.insert_row.result,
+      c.insert.result,
       changed_front no_entry X c.change_each.new.table n c.requires.within (w.long ∙ l) (λ _. raised c.args.entry.row)
           (λ m b. let z = w.each m no_entry (omega arith) in search (rules, tests, z, get_or-take n X m no_entry b)),
-      c.insert_row.ensures.moves,
-      c.insert_row.ensures.order,
+      c.insert.ensures.moves,
+      c.insert.ensures.order,
     )

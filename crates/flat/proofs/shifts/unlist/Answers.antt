@@ -18,12 +18,12 @@ returns c =
     let found = place_found X n c.args.gone c.position.result c.unwrap_or-place.result c.requires p c.unwrap_or-place.ensures in (
       c.change_each.new.table ++ drop n X,
       c.unwrap_or-place.result,
-      c.remove_row.result,
+      c.remove.result,
       record {
         changed = changed_front no_entry X c.change_each.new.table n c.requires (w.long ∙ l) (λ _. lowered c.args.gone)
             (λ m b. let z = w.each m no_entry (omega arith) in search (rules, tests, z, get_or-take n X m no_entry b));
         found = found.0;
         missed = found.1;
       },
-      c.remove_row.ensures.moves,
+      c.remove.ensures.moves,
     )
