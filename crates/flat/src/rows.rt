@@ -1,7 +1,7 @@
 // A row of the store: a node with the distance to its parent's row and the number of rows of its subtree.
 use records::Node;
 
-#[derive(Clone, Copy)]
+#[derive(Clone, Copy, Default)]
 pub struct FlatRow {
     pub node: Node,
     pub distance: usize,

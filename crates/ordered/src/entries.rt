@@ -17,7 +17,7 @@ pub struct Turn {
 }
 
 // In which row the node with an identifier stands.
-#[derive(Clone, Copy, PartialEq, Eq, PartialOrd, Ord, Debug)]
+#[derive(Clone, Copy, PartialEq, Eq, PartialOrd, Ord, Debug, Default)]
 pub struct RowOf {
     pub id: u32,
     pub row: usize,

@@ -6,26 +6,10 @@ ghost use Rattle.flat.specs.Document.{document};
 use super::FlatStore;
 use crate::rows::FlatRow;
 use ordered::RowOf;
-use records::{Kind, Node};
 use std::alloc::{AllocError, Global};
 
 // How many nodes a store can hold.
 pub const ROOM: usize = 500;
-
-// What stands in rows and entries that are not in use.
-const NO_ROW: FlatRow = FlatRow {
-    node: Node {
-        id: 0,
-        parent: 0,
-        kind: Kind::Element,
-        name: 0,
-        value: 0,
-    },
-    distance: 0,
-    size: 0,
-};
-
-const NO_ENTRY: RowOf = RowOf { id: 0, row: 0 };
 
 impl FlatStore {
     pub fn new(heap: Global) -> Result<FlatStore, AllocError>
@@ -37,8 +21,8 @@ impl FlatStore {
     pub fn with_room(heap: Global, room: usize) -> Result<FlatStore, AllocError>
         ensures { IfOk result (λ s. (document s ≡ nil) × (vec_len s.rows ≡ room)) }
     {
-        let rows = vec![in heap; NO_ROW; room]?;
-        let index = vec![in heap; NO_ENTRY; room]?;
+        let rows = vec![in heap; FlatRow::default(); room]?;
+        let index = vec![in heap; RowOf::default(); room]?;
         Ok(FlatStore {
             rows,
             index,
