@@ -1,12 +1,12 @@
 -- The open elements: outermost first in the slots, innermost first as a list of identifiers.
-use Rattle.std.proofs.Common.{◌≡◌, ℕ, ◌+◌, ◌-◌, ◌<◌, ◌≤◌, Bool, true, false, cond, ◌&&◌, eqb, List, [], ◌∷◌, ◌++◌, length, get_or, take, drop, set, Some, None, Option, sym, refl, ap, ◌∙◌, arith, length-append, length-take}
+use Rattle.std.proofs.Common.{◌≡◌, ℕ, suc, ◌+◌, ◌-◌, ◌<◌, ◌≤◌, Bool, true, false, cond, ◌&&◌, eqb, ltb, List, [], ◌∷◌, ◌++◌, length, get_or, take, drop, set, Some, None, Option, sym, refl, ap, ◌∙◌, arith, length-append, length-take}
 use Rattle.std.proofs.lemmas.List.{take_more, take_more_set, take-take, take_all, at_drop_more}
 use Rattle.std.proofs.Math.Seq.{take-append_seam}
-use Rattle.std.proofs.lemmas.Bool.{eq-eqb, ne_eqb}
+use Rattle.std.proofs.lemmas.Bool.{eq-eqb, ne_eqb, lt-ltb, le-ltb}
 use Rattle.records.specs.declared.nodes.Kind.{Kind}
 use Rattle.records.specs.declared.nodes.Kind.TheVariants.{Element, Attribute, Text}
 use Rattle.records.specs.declared.nodes.Node.{Node}
-use Rattle.document.specs.Table.{closed_to, innermost, opened, takes_above, taken, attached, order_from, is_root, out_of_order}
+use Rattle.document.specs.Table.{closed_to, innermost, opened, takes_above, taken, attached, order_from}
 use Rattle.nodetable.specs.declared.scratch.Slot.{Slot}
 use Rattle.nodetable.specs.Order.{after_child, after}
 use Rattle.nodetable.specs.Scratch.{open_ids}
@@ -57,30 +57,46 @@ innermost_closed p (e ∷ es) h = go (eqb e p) refl h (innermost_closed p es)
     go true f k later = f
     go false f k later = later k
 
--- an element or another node below the innermost of the r elements that stay open
-module _ (n r : ℕ) (ss : List Slot) (x : Node) (fits : n < length ss) (within : r ≤ length (take n ss)) (some : 0 < r)
-    (kept : open_ids (take r (take n ss)) ≡ closed_to x.parent (open_ids (take n ss))) where
-  small : r ≤ n
-  small = omega (arith, length-take n ss)
+-- the first n slots hold the open elements: how many they are, and what closing and opening leave
+pub count_is : (n : ℕ) (ss : List Slot) → n ≤ length ss → n ≡ length (open_ids (take n ss))
+count_is n ss h = omega (arith, length_open_ids (take n ss), length-take n ss)
 
-  closed : closed_to x.parent (open_ids (take n ss)) ≡ open_ids (take r ss)
-  closed = sym kept ∙ ap open_ids (take-take r n ss small)
+pub closes : (n r p : ℕ) (ss : List Slot) → r ≤ length (take n ss) → open_ids (take r (take n ss)) ≡ closed_to p (open_ids (take n ss))
+    → open_ids (take r ss) ≡ closed_to p (open_ids (take n ss))
+closes n r p ss h e = ap open_ids (sym (take-take r n ss (omega (arith, length-take n ss)))) ∙ e
 
-  child : after_child (open_ids (take n ss)) x ≡ Some (opened x.kind x.id (open_ids (take r ss)), takes_above x.kind)
-  child =
-      let long : 0 < length (closed_to x.parent (open_ids (take n ss))) =
-      rw closed (omega (arith, length_open_ids (take r ss), length-take r ss)) in
-      rw (innermost_closed x.parent (open_ids (take n ss)) long, closed)
+pub opens : (n : ℕ) (ss : List Slot) (s : Slot) → n < length ss
+    → open_ids (take (n + 1) (set ss n s)) ≡ cond (ltb (length (open_ids (take n ss))) (length ss)) (s.id ∷ open_ids (take n ss)) (open_ids (take n ss))
+opens n ss s h =
+    let some : ltb (length (open_ids (take n ss))) (length ss) ≡ true = lt-ltb _ _ (omega (arith, count_is n ss (omega arith))) in
+    rw (some, take_more_set ss n s h) (open_ids_push (take n ss) s)
 
-  pub child_element : (s : Slot) → s.id ≡ x.id → x.kind ≡ Element → Some (open_ids (take (r + 1) (set ss r s)), Some 0) ≡ after_child (open_ids (take n ss)) x
-  child_element s e k =
-      let t = take_more_set ss r s (omega (arith, small)) in
-      rw (child, k, t, open_ids_push (take r ss) s, e)
+pub opens_none : (n id : ℕ) (ss : List Slot) → n ≤ length ss → length ss ≤ n
+    → open_ids (take n ss) ≡ cond (ltb (length (open_ids (take n ss))) (length ss)) (id ∷ open_ids (take n ss)) (open_ids (take n ss))
+opens_none n id ss h k =
+    let none : ltb (length (open_ids (take n ss))) (length ss) ≡ false = le-ltb _ _ (omega (arith, count_is n ss h)) in
+    rw none
 
-  pub child_other : (x.kind ≡ Element → ⊥) → Some (open_ids (take r ss), None) ≡ after_child (open_ids (take n ss)) x
-  child_other ne = rw child (go x.kind refl)
+pub length_closed : (p : ℕ) (es : List ℕ) → length (closed_to p es) ≤ length es
+length_closed p [] = omega arith
+length_closed p (e ∷ es) = go (eqb e p) (length_closed p es)
+  where
+    go : (b : Bool) → length (closed_to p es) ≤ length es → length (cond b (e ∷ es) (closed_to p es)) ≤ suc (length es)
+    go true l = omega arith
+    go false l = omega arith
+
+-- an element or another node that comes where some elements stay open
+module _ (es : List ℕ) (x : Node) (some : 0 < length (closed_to x.parent es)) where
+  child : after_child es x ≡ Some (opened x.kind x.id (closed_to x.parent es), takes_above x.kind)
+  child = rw (innermost_closed x.parent es some)
+
+  pub child_element : x.kind ≡ Element → after_child es x ≡ Some (x.id ∷ closed_to x.parent es, Some 0)
+  child_element k = child ∙ rw k
+
+  pub child_other : (x.kind ≡ Element → ⊥) → after_child es x ≡ Some (closed_to x.parent es, None)
+  child_other ne = child ∙ go x.kind refl
     where
-      go : (κ : Kind) → x.kind ≡ κ → ◌≡◌ {A = Option (List ℕ × Option ℕ)} (Some (open_ids (take r ss), None)) (Some (opened κ x.id (open_ids (take r ss)), takes_above κ))
+      go : (κ : Kind) → x.kind ≡ κ → ◌≡◌ {A = Option (List ℕ × Option ℕ)} (Some (opened κ x.id (closed_to x.parent es), takes_above κ)) (Some (closed_to x.parent es, None))
       go Element k = absurd (ne k)
       go Attribute k = refl
       go Text k = refl
@@ -107,9 +123,3 @@ pub order_on : (ids : List ℕ) (limit : Option ℕ) (xs : List Node) (i n : ℕ
     → s ≡ after ids limit (get_or xs i d) → order_from ids limit n (drop i xs) ≡ onward n (drop (i + 1) xs) s
 order_on ids limit xs i n d s h e =
     at_drop_more (order_from ids limit n) xs i d h ∙ order_more ids limit n (get_or xs i d) (drop (i + 1) xs) ∙ ap (onward n (drop (i + 1) xs)) (sym e)
-
--- behind the root, which is in the first slot
-pub order_behind_root : (xs ys : List Node) (x : Node) (ss : List Slot) (s : Slot) (r : Option ℕ) → 0 < length ss → xs ≡ x ∷ ys
-    → true ≡ is_root x.kind x.parent → s.id ≡ x.id → r ≡ order_from (open_ids (take 1 (set ss 0 s))) (Some 0) 1 ys → r ≡ out_of_order xs
-order_behind_root xs ys x [] s r l at t e known = absurd (omega arith)
-order_behind_root xs ys x (z ∷ ss) s r l at t e known = rw (at, ← t, ← e) known

@@ -1,10 +1,9 @@
 -- Document order, one node at a time.
-use Rattle.std.specs.Prelude.{ℕ, ◌≤◌, cond, ◌&&◌, List, take, Some, None, Option}
+use Rattle.std.specs.Prelude.{◌≡◌, ℕ, Bool, true, false, cond, ◌&&◌, List, Some, None, Option}
 use Rattle.records.specs.declared.nodes.Node.{Node}
 use Rattle.document.specs.Table.{closed_to, innermost, opened, takes_above, taken, attached}
-use Rattle.nodetable.specs.declared.scratch.Slot.{Slot}
-use Rattle.nodetable.specs.declared.order.Open.{Open}
-use Rattle.nodetable.specs.Scratch.{open_ids}
+use Rattle.nodetable.specs.declared.order.Standing.{Standing}
+use Rattle.nodetable.specs.Open.{open_in}
 
 -- The identifiers of the elements that are open behind a node, innermost first, and which attributes the innermost still
 -- takes; nothing if the node is out of order.
@@ -19,11 +18,7 @@ after_child ids x =
 abbrev pub after : List ℕ → Option ℕ → Node → Option (List ℕ × Option ℕ)
 after ids limit x = cond (attached x) (after_attribute ids limit x) (after_child ids x)
 
--- what the slots hold
-abbrev pub held : List Slot → Option Open → Option (List ℕ × Option ℕ)
-held slots None = None
-held slots (Some o) = Some (open_ids (take o.count slots), o.above)
-
-abbrev pub AtMost : ℕ → Option Open → Type 0
-AtMost n None = Unit {0}
-AtMost n (Some o) = o.count ≤ n
+-- whether a node passed, and what is open then
+abbrev pub Passes : Bool → Standing → Option (List ℕ × Option ℕ) → Type 0
+Passes true s o = o ≡ Some (open_in s.open, s.above)
+Passes false s o = o ≡ None

@@ -1,112 +1,86 @@
-// Document order, by the elements that are open: those whose children may still come.
-ghost use Rattle.std.specs.Prelude.{◌≡◌, ◌+◌, ◌<◌, ◌≤◌, length, take, Some};
-ghost use Rattle.document.specs.Table.{closed_to, innermost, order_from, is_root, out_of_order};
-ghost use Rattle.nodetable.specs.Order.{after_attribute, after_child, after, held, AtMost};
-ghost use Rattle.nodetable.specs.Scratch.{open_ids};
+// Document order, by the elements that are open.
+ghost use Rattle.std.specs.Prelude.{◌≡◌, ◌+◌, ◌<◌, ◌≤◌, [], ◌∷◌, length, Some};
+ghost use Rattle.document.specs.Table.{order_from, is_root, out_of_order};
+ghost use Rattle.nodetable.specs.Open.{open_in, places};
+ghost use Rattle.nodetable.specs.Order.{after_attribute, after_child, after, Passes};
 
+use crate::open_elements::OpenElements;
 use crate::scratch::Slot;
 use records::{Kind, Node};
 
-// How many of the open elements, outermost first, stay open where a node below `parent` comes; 0 if `parent` is not open.
-pub fn still_open(parent: u32, elements: &[Slot]) -> usize
-    ensures within { result ≤ length elements.now }
-    ensures kept { open_ids (take result elements.now) ≡ closed_to parent (open_ids elements.now) }
-{
-    let mut open = elements;
-    while let Some((innermost, around)) = open.split_last() {
-        if innermost.id == parent {
-            break;
-        }
-        open = around;
-    }
-    open.len()
-}
-
-// Whether `parent` is the innermost of the open elements.
-fn is_innermost(parent: u32, elements: &[Slot]) -> bool
-    ensures { result ≡ innermost parent (open_ids elements.now) }
-{
-    match elements.last() {
-        Some(slot) => slot.id == parent,
-        None => false,
-    }
-}
-
-// The elements that are open, in the first `count` slots, and which attributes the innermost still takes: those above a
-// number, or none.
-#[derive(Clone, Copy)]
-struct Open {
-    count: usize,
+// What is open behind the nodes that passed, and which attributes the innermost element still takes: those above a number,
+// or none.
+#[derive(Drop)]
+struct Standing<'a> {
+    open: OpenElements<'a>,
     above: Option<u32>,
 }
 
-// What is open behind an attribute of an element, if it stands in order.
-fn behind_attribute(node: &Node, before: Open, slots: &[Slot]) -> Option<Open>
-    requires { before.count ≤ length slots.now }
-    ensures standing { held slots.now result ≡ after_attribute (open_ids (take before.count slots.now)) before.above node.now }
-    ensures within { AtMost before.count result }
-{
-    match before.above {
-        Some(above) if above < node.id && is_innermost(node.parent, &slots[..before.count]) => {
-            Some(Open {
-                count: before.count,
-                above: Some(node.id),
-            })
+impl Standing<'_> {
+    // Lets an attribute of an element pass, if it stands in order, and tells whether it does.
+    fn pass_attribute(&mut self, node: &Node) -> bool
+        ensures passes { Passes result self.new (after_attribute (open_in self.old.open) self.old.above node.now) }
+        ensures within { length (open_in self.new.open) ≤ length (open_in self.old.open) + 1 }
+        ensures places { places self.new.open ≡ places self.old.open }
+    {
+        match self.above {
+            Some(above) if above < node.id && self.open.is_innermost(node.parent) => {
+                self.above = Some(node.id);
+                true
+            }
+            _ => false,
         }
-        _ => None,
     }
-}
 
-// What is open behind any other node: the elements up to its parent, and the node itself if it is an element.
-fn behind_child(node: &Node, before: Open, slots: &mut [Slot]) -> Option<Open>
-    requires { before.count < length slots.old }
-    ensures standing { held slots.new result ≡ after_child (open_ids (take before.count slots.old)) node.now }
-    ensures within { AtMost (before.count + 1) result }
-{
-    let count = still_open(node.parent, &slots[..before.count]);
-    if count == 0 {
-        return None;
-    }
-    match node.kind {
-        Kind::Element => {
-            slots[count] = Slot {
-                id: node.id,
-                ..Slot::EMPTY
-            };
-            Some(Open {
-                count: count + 1,
-                above: Some(0),
-            })
+    // Lets any other node pass: the elements up to its parent stay open, and it opens if it is one itself.
+    fn pass_child(&mut self, node: &Node) -> bool
+        requires { length (open_in self.old.open) < places self.old.open }
+        ensures passes { Passes result self.new (after_child (open_in self.old.open) node.now) }
+        ensures within { length (open_in self.new.open) ≤ length (open_in self.old.open) + 1 }
+        ensures places { places self.new.open ≡ places self.old.open }
+    {
+        self.open.close_to(node.parent);
+        if self.open.count() == 0 {
+            return false;
         }
-        _ => Some(Open { count, above: None }),
+        match node.kind {
+            Kind::Element => {
+                self.open.push(node.id);
+                self.above = Some(0);
+            }
+            _ => self.above = None,
+        }
+        true
+    }
+
+    // Lets a node pass, if it stands in order.
+    fn pass(&mut self, node: &Node) -> bool
+        requires { length (open_in self.old.open) < places self.old.open }
+        ensures passes { Passes result self.new (after (open_in self.old.open) self.old.above node.now) }
+        ensures within { length (open_in self.new.open) ≤ length (open_in self.old.open) + 1 }
+        ensures places { places self.new.open ≡ places self.old.open }
+    {
+        match node.kind {
+            Kind::Attribute if node.parent > 0 => self.pass_attribute(node),
+            _ => self.pass_child(node),
+        }
     }
 }
 
-// What is open behind a node, if it stands in order.
-fn behind(node: &Node, before: Open, slots: &mut [Slot]) -> Option<Open>
-    requires { before.count < length slots.old }
-    ensures standing { held slots.new result ≡ after (open_ids (take before.count slots.old)) before.above node.now }
-    ensures within { AtMost (before.count + 1) result }
-{
-    match node.kind {
-        Kind::Attribute if node.parent > 0 => behind_attribute(node, before, slots),
-        _ => behind_child(node, before, slots),
-    }
-}
-
-// The place of the first node out of document order among those behind the root, which is in the first slot.
-fn first_unplaced(behind_root: &[Node], slots: &mut [Slot]) -> Option<usize>
+// The place of the first node out of document order among those behind the root.
+fn first_unplaced(root: u32, behind_root: &[Node], slots: &mut [Slot]) -> Option<usize>
     requires { length behind_root.now < length slots.old }
-    ensures { result ≡ order_from (open_ids (take 1 slots.old)) (Some 0) 1 behind_root.now }
+    ensures { result ≡ order_from (root ∷ []) (Some 0) 1 behind_root.now }
 {
-    let mut open = Open {
-        count: 1,
+    let mut open = OpenElements::none(slots);
+    open.push(root);
+    let mut standing = Standing {
+        open,
         above: Some(0),
     };
     for (passed, node) in behind_root.iter().enumerate() {
-        match behind(node, open, slots) {
-            Some(next) => open = next,
-            None => return Some(passed + 1),
+        if !standing.pass(node) {
+            return Some(passed + 1);
         }
     }
     None
@@ -124,13 +98,7 @@ pub fn first_out_of_order(nodes: &[Node], slots: &mut [Slot]) -> Option<usize>
     ensures { result ≡ out_of_order nodes.now }
 {
     match nodes.split_first() {
-        Some((root, behind_root)) if is_root(root) => {
-            slots[0] = Slot {
-                id: root.id,
-                ..Slot::EMPTY
-            };
-            first_unplaced(behind_root, slots)
-        }
+        Some((root, behind_root)) if is_root(root) => first_unplaced(root.id, behind_root, slots),
         _ => Some(0),
     }
 }

@@ -7,7 +7,7 @@ ghost use Rattle.session.specs.Printed.{most_records, printed};
 use crate::lines::{node_line, ok_line, refusal_line};
 use crate::opening::open;
 use crate::outline::stand;
-use nodetable::Slot;
+use nodetable::{OpenElements, Slot};
 use records::Node;
 use std::alloc::{AllocError, Global};
 
@@ -17,11 +17,10 @@ fn document_text(heap: Global, nodes: &[Node], slots: &mut [Slot]) -> Result<Str
     ensures { IfOk result (λ s. string_bytes s ≡ ok_line ++ lines_from [] nodes.now) }
 {
     let mut text = ok_line(heap)?;
-    let mut open = 0;
+    let mut elements = OpenElements::none(slots);
     for node in nodes {
-        let standing = stand(node, open, slots);
-        open = standing.behind;
-        let line = node_line(heap, standing.depth, *node)?;
+        let depth = stand(node, &mut elements);
+        let line = node_line(heap, depth, *node)?;
         text.push_str(line.as_str())?;
     }
     Ok(text)

@@ -1,26 +1,20 @@
-use Rattle.std.proofs.Common.{◌+◌, take, sym, ◌∙◌, arith}
-use Rattle.std.proofs.lemmas.List.{at_drop_all}
-use Rattle.document.specs.Table.{order_from}
-use Rattle.nodetable.specs.Scratch.{open_ids}
+use Rattle.std.proofs.Common.{◌+◌, sym, ◌∙◌, arith}
+use Rattle.nodetable.specs.Open.{open_in}
 use Rattle.nodetable.proofs.Elements.{order_on}
 use Rattle.nodetable.proofs.order.first_unplaced.Goals as goal
 
-pub returns-in-None : goal.returns-in-None
-returns-in-None c =
-    let open' = c.loop-passed.open in
-    sym (order_on (open_ids (take open'.count c.loop-passed.slots)) open'.above c.args.behind_root.now c.loop-passed.passed _ _ _ (omega arith) c.in-None.ensures.standing)
-    ∙ c.loop-passed.invariant.1
+pub returns-then-not-pass : goal.returns-then-not-pass
+returns-then-not-pass c =
+    let at = c.loop-passed.standing in
+    sym (order_on (open_in at.open) at.above c.args.behind_root.now c.loop-passed.passed (c.loop-passed.passed + 1) _ _ c.loop-passed-test.true (sym c.if-not-pass.ensures.passes))
+    ∙ c.loop-passed.invariant.2
 
 pub loop-passed-preserved : goal.loop-passed-preserved
 loop-passed-preserved c =
-    let open' = c.loop-passed.open in (
-      omega (arith, c.in-Some.ensures.within, c.loop-passed.invariant.0),
-      sym (order_on (open_ids (take open'.count c.loop-passed.slots)) open'.above c.args.behind_root.now c.loop-passed.passed _ _ _ (omega arith) c.in-Some.ensures.standing)
-          ∙ c.loop-passed.invariant.1,
+    let at = c.loop-passed.standing in
+    let passed = c.if-not-pass.ensures in (
+      omega (arith, passed.within, c.loop-passed.invariant.0),
+      passed.places ∙ c.loop-passed.invariant.1,
+      sym (order_on (open_in at.open) at.above c.args.behind_root.now c.loop-passed.passed (c.loop-passed.passed + 1) _ _ c.loop-passed-test.true (sym passed.passes))
+          ∙ c.loop-passed.invariant.2,
     )
-
-pub returns : goal.returns
-returns c =
-    let open' = c.loop-passed.open in
-    sym (at_drop_all (order_from (open_ids (take open'.count c.loop-passed.slots)) open'.above (c.loop-passed.passed + 1)) c.args.behind_root.now c.loop-passed.passed (omega arith))
-    ∙ c.loop-passed.invariant.1

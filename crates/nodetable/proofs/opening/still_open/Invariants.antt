@@ -1,7 +1,7 @@
 use Rattle.std.proofs.Common.{◌≡◌, ◌≤◌, length, take}
 use Rattle.document.specs.Table.{closed_to}
 use Rattle.nodetable.specs.Scratch.{open_ids}
-use Rattle.nodetable.proofs.order.still_open.Given as goal
+use Rattle.nodetable.proofs.opening.still_open.Given as goal
 
 -- the elements that were passed over close
 abbrev pub invariant-loop-innermost : goal.invariant-loop-innermost

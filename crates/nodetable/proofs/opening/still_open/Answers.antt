@@ -1,7 +1,7 @@
 use Rattle.std.proofs.Common.{sym, ap, ◌∙◌, arith}
 use Rattle.nodetable.specs.Scratch.{open_ids}
 use Rattle.nodetable.proofs.Elements.{closed_past, closed_here, around_front}
-use Rattle.nodetable.proofs.order.still_open.Goals as goal
+use Rattle.nodetable.proofs.opening.still_open.Goals as goal
 
 pub loop-innermost-preserved : goal.loop-innermost-preserved
 loop-innermost-preserved c =

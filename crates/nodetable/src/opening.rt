@@ -1,0 +1,76 @@
+// What opens and closes as nodes pass in document order.
+ghost use Rattle.std.specs.Prelude.{◌≡◌, ◌≤◌, [], ◌∷◌, length, take, if◌then◌else◌, nat_lt};
+ghost use Rattle.document.specs.Table.{closed_to, innermost};
+ghost use Rattle.nodetable.specs.Scratch.{open_ids};
+ghost use Rattle.nodetable.specs.Open.{open_in, places};
+
+use crate::open_elements::OpenElements;
+use crate::scratch::Slot;
+
+// How many of the open elements, outermost first, stay open where a node below `parent` comes; 0 if `parent` is not open.
+pub fn still_open(parent: u32, elements: &[Slot]) -> usize
+    ensures within { result ≤ length elements.now }
+    ensures kept { open_ids (take result elements.now) ≡ closed_to parent (open_ids elements.now) }
+{
+    let mut open = elements;
+    while let Some((innermost, around)) = open.split_last() {
+        if innermost.id == parent {
+            break;
+        }
+        open = around;
+    }
+    open.len()
+}
+
+impl<'a> OpenElements<'a> {
+    // No element yet; as many as there are slots can be open at once.
+    pub fn none(slots: &'a mut [Slot]) -> OpenElements<'a>
+        ensures open { open_in result ≡ [] }
+        ensures places { places result ≡ length slots.old }
+    {
+        OpenElements { slots, count: 0 }
+    }
+
+    pub fn count(&self) -> usize
+        ensures { result ≡ length (open_in self.now) }
+    {
+        self.count
+    }
+
+    // Whether an element is the innermost.
+    pub fn is_innermost(&self, id: u32) -> bool
+        ensures { result ≡ innermost id (open_in self.now) }
+    {
+        match self.slots[..self.count].last() {
+            Some(slot) => slot.id == id,
+            None => false,
+        }
+    }
+
+    // How many elements stay open where a node below `parent` comes.
+    fn kept(&self, parent: u32) -> usize
+        ensures within { result ≤ self.now.count }
+        ensures kept { open_ids (take result self.now.slots.now) ≡ closed_to parent (open_in self.now) }
+    {
+        still_open(parent, &self.slots[..self.count])
+    }
+
+    // Closes the elements inside `parent`, and all of them where that is not open.
+    pub fn close_to(&mut self, parent: u32)
+        ensures open { open_in self.new ≡ closed_to parent (open_in self.old) }
+        ensures places { places self.new ≡ places self.old }
+    {
+        self.count = self.kept(parent);
+    }
+
+    // Opens an element inside the innermost, if a slot is left.
+    pub fn push(&mut self, id: u32)
+        ensures open { open_in self.new ≡ (if nat_lt (length (open_in self.old)) (places self.old) then id ∷ open_in self.old else open_in self.old) }
+        ensures places { places self.new ≡ places self.old }
+    {
+        if self.count < self.slots.len() {
+            self.slots[self.count] = Slot { id, ..Slot::EMPTY };
+            self.count += 1;
+        }
+    }
+}
