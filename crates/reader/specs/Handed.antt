@@ -1,5 +1,5 @@
 -- What a list reader hands out.
-use Rattle.std.specs.Prelude.{ℕ, ◌+◌, ◌*◌, cond, List, [], ◌∷◌, length, take, drop, Some, None, Ok, Err, Option, Result}
+use Rattle.std.specs.Prelude.{◌≡◌, ℕ, ◌+◌, ◌*◌, cond, List, [], ◌∷◌, length, take, drop, Some, None, Ok, Err, Option, Result}
 use Rattle.std.specs.Borrow.{Bor}
 use Rattle.codec.specs.declared.spelling.Record.{Record}
 use Rattle.records.specs.declared.operations.Operation.{Operation}
@@ -7,7 +7,7 @@ use Rattle.codec.specs.Fields.{operation_of}
 use Rattle.faults.specs.declared.FileFault.{FileFault}
 use Rattle.faults.specs.declared.FileFault.TheVariants.{Structure, Misformed}
 use Rattle.reader.specs.Bytes.{records}
-use Rattle.reader.specs.Reading.{ill_built}
+use Rattle.reader.specs.Reading.{ill_built, structure_from, misformed_from}
 
 -- nothing more, an operation with the bytes of its nodes and its place, or a fault
 pub data Step : Type 0 where
@@ -38,3 +38,7 @@ abbrev pub place_after : ℕ → Step → ℕ
 place_after n end = n
 place_after n (gives o part k) = n + 1 + o.count
 place_after n (fault f) = n
+
+-- where an operation is due at the first of the records, which is at place n, the tests on structure and on records pass
+abbrev pub Passes : ℕ → List Record → Type 0
+Passes n rs = (structure_from 0 n rs ≡ None) × (misformed_from 0 n rs ≡ None)

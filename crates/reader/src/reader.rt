@@ -1,43 +1,25 @@
 // A list file operation by operation, without tables.
-ghost use Rattle.std.specs.Prelude.{◌≡◌, ◌/◌, ◌≤◌, max, true, length, is_ok, Err, MatchResult};
+ghost use Rattle.std.specs.Prelude.{◌≡◌, ◌-◌, ◌/◌, ◌≤◌, true, length, drop, is_ok, Ok, Err, MatchResult};
+ghost use Rattle.std.specs.Iterator.{at_most};
+ghost use Rattle.std.proofs.Props.{props};
+ghost use Rattle.reader.specs.Bytes.{records};
 ghost use Rattle.reader.specs.Reading.{list_tested};
-ghost use Rattle.reader.specs.Handed.{step_of, seen, place_after};
+ghost use Rattle.reader.specs.Handed.{step_of, seen, place_after, Passes};
 
 use crate::bytes::raw_records;
 use crate::lists::test_list;
-use crate::reading::is_ill_built;
 use codec::Record;
 use faults::FileFault;
 use records::Operation;
 
-// The operation at a place, the part of the file that holds its nodes, and the place; nothing behind the last record.
-fn operation_at<'a>(
-    bytes: &'a [u8],
-    place: usize,
-) -> Result<Option<(Operation, &'a [u8], usize)>, FileFault>
-    ensures step { seen result ≡ step_of bytes.now place }
-    ensures within { place_after place (seen result) ≤ max place (length bytes.now / 16) }
-{
-    let raw_records = raw_records(bytes);
-    let Some(raw) = raw_records.get(place) else {
-        return Ok(None);
-    };
-    let found = Record::from(*raw);
-    if is_ill_built(0, found, raw_records.len() - place - 1) {
-        return Err(FileFault::Structure(place));
-    }
-    let Ok(operation) = Operation::try_from(found) else {
-        return Err(FileFault::Misformed(place));
-    };
-    let from = 16 * place + 16;
-    let part = &bytes[from..from + 16 * operation.count as usize];
-    Ok(Some((operation, part, place)))
-}
-
+// A file that passes the tests, and a place in it: an operation stands there, or the file ends.
 #[derive(Drop)]
 pub struct ListReader<'a> {
     bytes: &'a [u8],
     place: usize,
+    ghost passed: { is_ok (list_tested bytes.now) ≡ true },
+    ghost within: { place ≤ length bytes.now / 16 },
+    ghost rest: { Passes place (drop place (records bytes.now)) } by { Prim.hlevel props },
 }
 
 impl<'a> ListReader<'a> {
@@ -48,17 +30,25 @@ impl<'a> ListReader<'a> {
         test_list(bytes)?;
         Ok(ListReader { bytes, place: 0 })
     }
+}
 
-    // The next operation with its part of the file and its place; a fault leaves the reader where it is.
-    pub fn next(&mut self) -> Result<Option<(Operation, &'a [u8], usize)>, FileFault>
-        ensures step { seen result ≡ step_of self.old.bytes.now self.old.place }
-        ensures moved { self.new.place ≡ place_after self.old.place (seen result) }
-        ensures same { self.new.bytes.now ≡ self.old.bytes.now }
-    {
-        let found = operation_at(self.bytes, self.place)?;
-        if let Some((operation, _, _)) = found {
-            self.place = self.place + 1 + operation.count as usize;
-        }
-        Ok(found)
+impl<'a> Iterator for ListReader<'a> {
+    type Item = (Operation, &'a [u8], usize);
+
+    ghost next_gives = { λ s r t. (seen (Ok r) ≡ step_of s.bytes.now s.place) × (t.place ≡ place_after s.place (seen (Ok r))) × (t.bytes.now ≡ s.bytes.now) };
+
+    ghost remaining = { λ s. at_most (length s.bytes.now / 16 - s.place) };
+
+    // The next operation with its part of the file and its place.
+    fn next(&mut self) -> Option<(Operation, &'a [u8], usize)> {
+        let raw = raw_records(self.bytes).get(self.place)?;
+        let Ok(operation) = Operation::try_from(Record::from(*raw)) else {
+            unreachable!()
+        };
+        let place = self.place;
+        let from = 16 * place + 16;
+        let part = &self.bytes[from..from + 16 * operation.count as usize];
+        self.place = place + 1 + operation.count as usize;
+        Some((operation, part, place))
     }
 }

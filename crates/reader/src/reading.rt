@@ -21,7 +21,7 @@ fn due_after(due: usize, found: Record) -> usize
 }
 
 // Whether an operation is due, and the record is a node or counts more nodes than follow.
-pub fn is_ill_built(due: usize, found: Record, follow: usize) -> bool
+fn is_ill_built(due: usize, found: Record, follow: usize) -> bool
     ensures { result ≡ ill_built due found follow }
 {
     due == 0 && (Kind::try_from(found.tag).is_ok() || found.link as usize > follow)
