@@ -34,7 +34,6 @@ passed_over false n later e = refl
 
 pub record Hands (bs : List ℕ) (k : ℕ) (o : Operation) : Type 0 where
   pub step : step_of bs k ≡ gives o (take (16 * o.count) (drop (16 * k + 16) bs)) k
-  pub part : 16 * k + 16 + 16 * o.count ≤ length bs
   pub within : k + 1 + o.count ≤ length bs / 16
   pub rest : Passes (k + 1 + o.count) (drop (k + 1 + o.count) (records bs))
 
@@ -68,7 +67,6 @@ module _ (bs : List ℕ) (raws : List (List ℕ)) (k : ℕ) (raw : List ℕ) (r 
       let next : Passes (k + 1 + r.link) (drop r.link rs) = behind_nodes r.link (k + 1) rs b.0 b.1 well_formed.2 in
       record {
         step = gives_step o m;
-        part = omega (arith, b.0, c, follow, found.0, count);
         within = omega (arith, b.0, c, follow, found.0, count);
         rest = subst (λ n. Passes (k + 1 + n) (drop (k + 1 + n) (records bs))) (sym c) (subst (Passes (k + 1 + r.link)) (drop-drop r.link (k + 1) (records bs)) next);
       }

@@ -136,18 +136,18 @@ fn a_list_is_read_and_written_back(rt: HostRuntime) -> Result<(), Fail> {
 fn the_reader_hands_out_parts(rt: HostRuntime) -> Result<(), Fail> {
     let bytes = file(rt.alloc(), &change())?;
     let mut reader = ListReader::new(bytes.as_slice())?;
-    let (first, none, _) = reader.next()?.ok_or("no first operation")?;
+    let (first, none, _) = reader.next().ok_or("no first operation")?;
     assert_eq!(rt; first.code, Code::Delete);
     assert_eq!(rt; none.len(), 0);
-    let (second, one, place) = reader.next()?.ok_or("no second operation")?;
+    let (second, one, place) = reader.next().ok_or("no second operation")?;
     assert_eq!(rt; second.code, Code::ReplaceNode);
     assert_eq!(rt; place, 1);
     assert!(rt; one.len() == 16);
     assert_eq!(rt; one[0], 30);
-    let (_, two, place) = reader.next()?.ok_or("no third operation")?;
+    let (_, two, place) = reader.next().ok_or("no third operation")?;
     assert_eq!(rt; place, 3);
     assert_eq!(rt; two.len(), 32);
-    assert!(rt; reader.next()?.is_none());
+    assert!(rt; reader.next().is_none());
     assert!(rt; bytes.len() == 96);
     assert!(rt; ListReader::new(&bytes[0..95]).is_err());
     assert!(rt; ListReader::new(&bytes[0..80]).is_err());
