@@ -1,7 +1,6 @@
 -- A table filled from its front, one element after another.
-use Rattle.std.proofs.Common.{◌≡◌, ℕ, suc, ◌+◌, ◌<◌, ◌≤◌, List, [], ◌∷◌, ◌++◌, length, take, drop, set, sym, refl, ap, ◌∙◌, append_assoc, append-nil, arith, length-set}
-use Rattle.std.proofs.lemmas.List.{take_more_set, drop-set-lt, drop-drop, take-append-drop, length-take-le}
-use Rattle.reader.specs.Bytes.{over}
+use Rattle.std.proofs.Common.{◌≡◌, ℕ, suc, ◌+◌, ◌<◌, ◌≤◌, List, [], ◌∷◌, ◌++◌, length, take, drop, set, sym, ap, ◌∙◌, append_assoc, arith, length-set}
+use Rattle.std.proofs.lemmas.List.{take_more_set, drop-set-lt, drop-drop}
 
 -- n elements of `all` stand in `now`, `rest` is to come, and behind them is what `table` held
 pub record Filled {X : Type 0} (all table now' : List X) (n : ℕ) (rest : List X) : Type 0 where
@@ -9,9 +8,6 @@ pub record Filled {X : Type 0} (all table now' : List X) (n : ℕ) (rest : List 
   pub front : take n now' ++ rest ≡ all
   pub behind : drop n now' ≡ drop n table
   pub room : n + length rest ≤ length table
-
-pub filled_none : {X : Type 0} (all table : List X) → length all ≤ length table → Filled all table table 0 all
-filled_none all table h = record { long = refl; front = refl; behind = refl; room = omega arith }
 
 pub filled_more : {X : Type 0} (all table now' : List X) (n : ℕ) (x : X) (rest : List X) → Filled all table now' n (x ∷ rest) → Filled all table (set now' n x) (n + 1) rest
 filled_more all table now' n x rest f =
@@ -23,13 +19,6 @@ filled_more all table now' n x rest f =
       behind = drop-set-lt (n + 1) now' n x (omega arith) ∙ sym (drop-drop 1 n now') ∙ ap (drop 1) f.behind ∙ drop-drop 1 n table;
       room = omega arith;
     }
-
-pub filled_all : {X : Type 0} (all table now' : List X) (n : ℕ) → Filled all table now' n [] → now' ≡ over all table
-filled_all all table now' n f =
-    let e : take n now' ≡ all = sym (append-nil (take n now')) ∙ f.front in
-    let r : n + 0 ≤ length table = f.room in
-    let l : length all ≡ n = sym (ap length e) ∙ length-take-le n now' (rw f.long (omega arith)) in
-    sym (take-append-drop n now') ∙ (λ i. e i ++ f.behind i) ∙ ap (λ m. all ++ drop m table) (sym l)
 
 -- one turn of a loop that fills: an element is written, or none
 pub filled_turn : {X : Type 0} {all table now' next : List X} {n m : ℕ} {x : X} {rest later : List X}

@@ -1,23 +1,12 @@
 -- The records of a file, by place, and the file of records.
-use Rattle.std.proofs.Common.{◌≡◌, ℕ, zero, suc, ◌+◌, ◌*◌, ◌/◌, ◌%◌, ◌<◌, ◌≤◌, List, [], ◌∷◌, ◌++◌, length, get_or, map, take, drop, Some, sym, refl, ap, ◌∙◌, append_assoc, append-nil, arith, length-append, length-drop, le-ltb}
+use Rattle.std.proofs.Common.{◌≡◌, ℕ, zero, suc, ◌+◌, ◌*◌, ◌/◌, ◌%◌, ◌<◌, ◌≤◌, List, [], ◌∷◌, ◌++◌, length, get_or, map, take, drop, sym, refl, ap, ◌∙◌, append_assoc, append-nil, arith, length-append, length-drop}
 use Rattle.std.proofs.lemmas.List.{drop-drop, take-append-drop, get_or-drop, get_or-map, nil_from_length, drop_at, take_at, length-take-le}
 use Rattle.codec.specs.declared.spelling.Record.{Record}
-use Rattle.codec.specs.Codec.{record_of, bytes_of, first_record}
+use Rattle.codec.specs.Codec.{record_of, bytes_of}
 use Rattle.codec.proofs.Bytes.{record_back, record_of_front}
 use lib.ListN.{length-map}
 use Rattle.std.specs.Simd.{first_chunks}
 use Rattle.reader.specs.Bytes.{records_in, records, file_of, over, patched, Spelt}
-
-records_in_at : (n k : ℕ) (bs : List ℕ) (d : Record) → k < n → get_or (records_in n bs) k d ≡ record_of (drop (16 * k) bs)
-records_in_at zero k bs d h = absurd (omega arith)
-records_in_at (suc n) zero bs d h = refl
-records_in_at (suc n) (suc k) bs d h =
-    let e : 16 * suc k ≡ 16 + 16 * k = omega arith in
-    records_in_at n k (drop 16 bs) d (omega arith) ∙ ap record_of (drop-drop (16 * k) 16 bs ∙ ap (λ m. drop m bs) (sym e))
-
-pub record_at : (k : ℕ) (bs : List ℕ) (d : Record) → k < length bs / 16 → get_or (records bs) k d ≡ record_of (drop (16 * k) bs)
-unfolding records
-record_at k bs d h = records_in_at (length bs / 16) k bs d h
 
 pub length_records_in : (n : ℕ) (bs : List ℕ) → length (records_in n bs) ≡ n
 length_records_in zero bs = refl
@@ -73,9 +62,6 @@ file_of-++ [] ys = refl
 file_of-++ (x ∷ xs) ys = rw (file_of-++ xs ys) (sym (append_assoc (bytes_of x) (file_of xs) (file_of ys)))
 
 -- what reading finds at the front
-pub first_spells : (bs : List ℕ) (r : Record) → 16 ≤ length bs → first_record bs ≡ Some r → r ≡ record_of bs
-first_spells bs r h e = let l = le-ltb (length bs) 16 h in sym (cc (rw l at e))
-
 -- a patch right behind a patch is one patch
 pub patch_patch : {X : Type 0} (table xs ys : List X) (at : ℕ) → at + length xs ≤ length table → patched (patched table at xs) (at + length xs) ys ≡ patched table at (xs ++ ys)
 patch_patch table xs ys at h =
@@ -98,10 +84,6 @@ patch_none table at = ap (λ m. take at table ++ drop m table) (omega arith) ∙
 
 pub patch_front : {X : Type 0} (table xs : List X) → patched table 0 xs ≡ over xs table
 patch_front table xs = ap (λ m. xs ++ drop m table) (omega arith)
-
-pub length_patched : {X : Type 0} (table xs : List X) (at : ℕ) → at + length xs ≤ length table → length (patched table at xs) ≡ length table
-length_patched table xs at h =
-    omega (arith, length-append (take at table) (xs ++ drop (at + length xs) table), length-append xs (drop (at + length xs) table), length-drop (at + length xs) table, length-take-le at table (omega arith))
 
 -- more records written right behind those that are
 pub file_more : (table now' next : List ℕ) (at place : ℕ) (done chunk : List Record) → now' ≡ patched table at (file_of done) → place ≡ at + 16 * length done → place ≤ length table

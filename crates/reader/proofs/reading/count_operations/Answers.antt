@@ -2,7 +2,7 @@ use Rattle.std.proofs.Common.{◌+◌, length, drop, ap, arith, eq-eqb, ne_eqb}
 use Rattle.reader.specs.Bytes.{records}
 use Rattle.reader.specs.Reading.{operations_in}
 use Rattle.reader.proofs.Rows.{raw_at}
-use Rattle.reader.proofs.Tests.{no_record, operations_on_due, nodes_on_due}
+use Rattle.reader.proofs.Tests.{operations_on_due, nodes_on_due}
 use Rattle.reader.proofs.reading.count_operations.Goals as goal
 use Rattle.reader.proofs.reading.count_operations.Goals.{then-due-eq0, else-due-eq0}
 
@@ -21,8 +21,3 @@ loop-raw-preserved c =
           let s = nodes_on_due bs k r (omega arith) (raw_at _ c.args.bytes.now c.loop-raw.raw-index _ _ c.raw_records-raw-items.ensures.spelt (omega arith) c.from-found.ensures) c.loop-raw.due k (ne_eqb _ 0 w.if-due-eq0.false) c.loop-raw.invariant.0 in
           (rw d s.4, omega (arith, rest, ap length s.3, w.count-is), omega (arith, w.count-is))
     ]
-
-pub returns : goal.returns
-returns c =
-    let e = ap (λ l. length (operations_in c.loop-raw.due l)) (no_record c.args.bytes.now c.loop-raw.raw-index (omega arith)) in
-    omega (arith, e)

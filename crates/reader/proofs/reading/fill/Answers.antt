@@ -1,16 +1,13 @@
-use Rattle.std.proofs.Common.{◌≡◌, ◌+◌, ◌∷◌, drop, sym, refl, ap, ◌∙◌, arith, eq-eqb, ne_eqb}
+use Rattle.std.proofs.Common.{◌≡◌, ◌+◌, ◌∷◌, drop, sym, ap, ◌∙◌, arith, eq-eqb, ne_eqb}
 use Rattle.codec.specs.Fields.{node_of, operation_of}
 use Rattle.codec.proofs.Spelled.{spelt_some}
 use Rattle.reader.specs.Bytes.{records}
 use Rattle.reader.specs.Reading.{operations_in, nodes_in}
 use Rattle.reader.proofs.Rows.{raw_at}
-use Rattle.reader.proofs.Tests.{no_record, operations_on_due, nodes_on_due}
-use Rattle.reader.proofs.Filling.{filled_none, filled_turn, filled_idle, filled_room, filled_all}
+use Rattle.reader.proofs.Tests.{operations_on_due, nodes_on_due}
+use Rattle.reader.proofs.Filling.{filled_turn, filled_idle, filled_room}
 use Rattle.reader.proofs.reading.fill.Goals as goal
 use Rattle.reader.proofs.reading.fill.Goals.{then-due-eq0+in-Ok, then-due-eq0+in_default, else-due-eq0+in-Ok-try_from, else-due-eq0+in_default-try_from}
-
-pub loop-raw-init : goal.loop-raw-init
-loop-raw-init c = (c.requires.formed, filled_none _ _ c.requires.operations_fit, filled_none _ _ c.requires.nodes_fit)
 
 pub bounds-operations-operation_count : goal.bounds-operations-operation_count
 bounds-operations-operation_count c =
@@ -46,10 +43,3 @@ loop-raw-preserved c =
           let s = nodes_on_due bs k r (omega arith) (raw_at _ c.args.bytes.now c.loop-raw.raw-index _ _ c.raw_records-raw-items.ensures.spelt (omega arith) c.from-found.ensures) c.loop-raw.due k (ne_eqb _ 0 w.if-due-eq0.false) c.loop-raw.invariant.0 in
           absurd (w.in_default-try_from.not-Ok s.0 (spelt_some (node_of r) w.try_from-else-due-eq0.ensures s.1))
     ]
-
-pub returns : goal.returns
-returns c =
-    let e = no_record c.args.bytes.now c.loop-raw.raw-index (omega arith) in
-    let o = ap (operations_in c.loop-raw.due) e in
-    let n = ap (nodes_in c.loop-raw.due) e in
-    record { operations = filled_all _ _ _ _ (filled_idle refl refl o c.loop-raw.invariant.1); nodes = filled_all _ _ _ _ (filled_idle refl refl n c.loop-raw.invariant.2) }

@@ -1,7 +1,6 @@
-use Rattle.std.proofs.Common.{sym, ap, ◌∙◌, arith}
-use Rattle.reader.specs.Reading.{misformed_from}
+use Rattle.std.proofs.Common.{sym, ◌∙◌, arith}
 use Rattle.reader.proofs.Rows.{raw_at}
-use Rattle.reader.proofs.Tests.{no_record, misformed_here, misformed_on}
+use Rattle.reader.proofs.Tests.{misformed_here, misformed_on}
 use Rattle.reader.proofs.reading.first_misformed.Goals as goal
 
 pub returns-then-not-spells_due : goal.returns-then-not-spells_due
@@ -13,8 +12,3 @@ pub loop-place-preserved : goal.loop-place-preserved
 loop-place-preserved c =
     let e = misformed_on c.args.bytes.now c.loop-place.place c.from-found.result (omega arith) (raw_at _ c.args.bytes.now c.loop-place.place _ _ c.raw_records-raw-items.ensures.spelt (omega arith) c.from-found.ensures) c.loop-place.due c.loop-place.place (sym c.spells_due.ensures ∙ c.if-not-spells_due.false) in
     rw c.due_after-due.ensures (sym e ∙ c.loop-place.invariant)
-
-pub returns : goal.returns
-returns c =
-    let e = no_record c.args.bytes.now c.loop-place.place (omega arith) in
-    sym (ap (misformed_from c.loop-place.due c.loop-place.place) e) ∙ c.loop-place.invariant
