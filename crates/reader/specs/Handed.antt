@@ -27,7 +27,7 @@ step_at bs n (r ∷ rs) = cond (ill_built 0 r (length rs)) (fault (Structure n))
 unfoldable pub step_of : List ℕ → ℕ → Step
 step_of bs n = step_at bs n (drop n (records bs))
 
--- an answer of the reader as a step: a part of the file counts by its bytes
+-- an answer, or a fault, as a step: a part of the file counts by its bytes
 abbrev pub seen : Result (Option (Operation × Bor (List ℕ) × ℕ)) FileFault → Step
 seen (Ok None) = end
 seen (Ok (Some x)) = gives x.0 x.1.now x.2
@@ -39,6 +39,6 @@ place_after n end = n
 place_after n (gives o part k) = n + 1 + o.count
 place_after n (fault f) = n
 
--- where an operation is due at the first of the records, which is at place n, the tests on structure and on records pass
+-- the tests on structure and on records pass, where an operation is due first and the first record is at place n
 abbrev pub Passes : ℕ → List Record → Type 0
 Passes n rs = (structure_from 0 n rs ≡ None) × (misformed_from 0 n rs ≡ None)

@@ -1,7 +1,6 @@
 // A list file operation by operation, without tables.
 ghost use Rattle.std.specs.Prelude.{◌≡◌, ◌-◌, ◌/◌, ◌≤◌, true, length, drop, is_ok, Ok, Err, MatchResult};
 ghost use Rattle.std.specs.Iterator.{at_most};
-ghost use Rattle.std.proofs.Props.{props};
 ghost use Rattle.reader.specs.Bytes.{records};
 ghost use Rattle.reader.specs.Reading.{list_tested};
 ghost use Rattle.reader.specs.Handed.{step_of, seen, place_after, Passes};
@@ -12,14 +11,14 @@ use codec::Record;
 use faults::FileFault;
 use records::Operation;
 
-// A file that passes the tests, and a place in it: an operation stands there, or the file ends.
+// A file that passes the tests, and a place in it where an operation stands or the file ends; so no step can fail.
 #[derive(Drop)]
 pub struct ListReader<'a> {
     bytes: &'a [u8],
     place: usize,
     ghost passed: { is_ok (list_tested bytes.now) ≡ true },
     ghost within: { place ≤ length bytes.now / 16 },
-    ghost rest: { Passes place (drop place (records bytes.now)) } by { Prim.hlevel props },
+    ghost rest: { Passes place (drop place (records bytes.now)) },
 }
 
 impl<'a> ListReader<'a> {
@@ -39,7 +38,7 @@ impl<'a> Iterator for ListReader<'a> {
 
     ghost remaining = { λ s. at_most (length s.bytes.now / 16 - s.place) };
 
-    // The next operation with its part of the file and its place.
+    // The next operation with the part of the file that holds its nodes, and its place.
     fn next(&mut self) -> Option<(Operation, &'a [u8], usize)> {
         let raw = raw_records(self.bytes).get(self.place)?;
         let Ok(operation) = Operation::try_from(Record::from(*raw)) else {
