@@ -8,9 +8,7 @@ use std::io::Read;
 fn run(rt: &HostRuntime) -> anyhow::Result<()> {
     let heap = rt.alloc();
     let mut input = Vec::with_capacity(heap, LONGEST + 1)?;
-    rt.stdin()
-        .take(LONGEST as u64 + 1)
-        .read_to_end(&mut input)?;
+    rt.stdin().take(LONGEST as u64 + 1).read_to_end(&mut input)?;
     let text = session::print(heap, input.as_slice())?;
     rt.print(text)?;
     Ok(())
