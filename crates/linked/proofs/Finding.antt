@@ -6,7 +6,7 @@ use Rattle.ordered.specs.declared.entries.RowOf.{RowOf}
 use Rattle.ordered.specs.Entries.{LookedUp}
 use Rattle.linked.specs.declared.row.Row.{Row}
 use Rattle.linked.specs.declared.row.Siblings.{Siblings}
-use Rattle.linked.specs.Rows.{with_link, first_link, next_link}
+use Rattle.linked.specs.Rows.{with_first, with_next}
 use Rattle.linked.specs.Tables.{Lookup, Shows, changed, led}
 
 abbrev pub no_entry : RowOf
@@ -32,25 +32,25 @@ module _ (ix : List RowOf) (rows : List Row) (n : ℕ) (look : Lookup) (s : Show
       ap look (ap (λ (x : RowOf). x.id) (sym e)) ∙ s.shown h.0 no_entry w h.1 ∙ ap (λ (x : RowOf). Some (get_or rows x.row w)) e
 
   -- another row for one node
-  module _ (id r : ℕ) (h : LookedUp ix n id (Some r)) (f : Row → Row) (w₀ : Row) where
-    shown_here : (e : RowOf) (w : Row) → changed id f look (get_or ix h.0 e).id ≡ Some (get_or (set rows r (f (get_or rows r w₀))) (get_or ix h.0 e).row w)
+  module _ (id r : ℕ) (h : LookedUp ix n id (Some r)) (f : Row → Row) (x w₀ : Row) (is : x ≡ f (get_or rows r w₀)) where
+    shown_here : (e : RowOf) (w : Row) → changed id f look (get_or ix h.0 e).id ≡ Some (get_or (set rows r x) (get_or ix h.0 e).row w)
     shown_here e w =
-        let a : (get_or ix h.0 e).id ≡ id = ap (λ (x : RowOf). x.id) (h.2 e) in
-        let b : (get_or ix h.0 e).row ≡ r = ap (λ (x : RowOf). x.row) (h.2 e) in
+        let a : (get_or ix h.0 e).id ≡ id = ap (λ (y : RowOf). y.id) (h.2 e) in
+        let b : (get_or ix h.0 e).row ≡ r = ap (λ (y : RowOf). y.row) (h.2 e) in
         let lt = row_inside id r h in
-        rw (a, b) (cond-true (eqb id id) _ _ (eq-eqb id id refl) ∙ ap (option_map f) (row_shown id r w₀ h) ∙ ap Some (sym (get_or-set_same rows r (f (get_or rows r w₀)) w lt)))
+        rw (a, b) (cond-true (eqb id id) _ _ (eq-eqb id id refl) ∙ ap (option_map f) (row_shown id r w₀ h) ∙ ap Some (sym is ∙ sym (get_or-set_same rows r x w lt)))
 
-    shown_there : (k : ℕ) (e : RowOf) (w : Row) → k < n → (k ≡ h.0 → ⊥) → changed id f look (get_or ix k e).id ≡ Some (get_or (set rows r (f (get_or rows r w₀))) (get_or ix k e).row w)
+    shown_there : (k : ℕ) (e : RowOf) (w : Row) → k < n → (k ≡ h.0 → ⊥) → changed id f look (get_or ix k e).id ≡ Some (get_or (set rows r x) (get_or ix k e).row w)
     shown_there k e w l ne =
         let a : get_or ix h.0 e ≡ record { id = id; row = r } = h.2 e in
-        let i : (get_or ix k e).id ≢ id = λ q. ne (s.once k h.0 e l h.1 (q ∙ ap (λ (x : RowOf). x.id) (sym a))) in
+        let i : (get_or ix k e).id ≢ id = λ q. ne (s.once k h.0 e l h.1 (q ∙ ap (λ (y : RowOf). y.id) (sym a))) in
         let g = s.within in
         let m = h.1 in
-        let j : (get_or ix k e).row ≢ r = λ q. ne (s.apart k h.0 e (omega arith) (omega arith) (q ∙ ap (λ (x : RowOf). x.row) (sym a))) in
-        cond-false (eqb (get_or ix k e).id id) _ _ (ne_eqb (get_or ix k e).id id i) ∙ s.shown k e w l ∙ ap Some (sym (get_or-set_other rows r (get_or ix k e).row (f (get_or rows r w₀)) w j))
+        let j : (get_or ix k e).row ≢ r = λ q. ne (s.apart k h.0 e (omega arith) (omega arith) (q ∙ ap (λ (y : RowOf). y.row) (sym a))) in
+        cond-false (eqb (get_or ix k e).id id) _ _ (ne_eqb (get_or ix k e).id id i) ∙ s.shown k e w l ∙ ap Some (sym (get_or-set_other rows r (get_or ix k e).row x w j))
 
-    shown_after : (k : ℕ) (e : RowOf) (w : Row) → k < n → (k ≡ h.0) ⊎ (k ≢ h.0) → changed id f look (get_or ix k e).id ≡ Some (get_or (set rows r (f (get_or rows r w₀))) (get_or ix k e).row w)
-    shown_after k e w l (inl q) = subst (λ (i : ℕ). changed id f look (get_or ix i e).id ≡ Some (get_or (set rows r (f (get_or rows r w₀))) (get_or ix i e).row w)) (sym q) (shown_here e w)
+    shown_after : (k : ℕ) (e : RowOf) (w : Row) → k < n → (k ≡ h.0) ⊎ (k ≢ h.0) → changed id f look (get_or ix k e).id ≡ Some (get_or (set rows r x) (get_or ix k e).row w)
+    shown_after k e w l (inl q) = subst (λ (i : ℕ). changed id f look (get_or ix i e).id ≡ Some (get_or (set rows r x) (get_or ix i e).row w)) (sym q) (shown_here e w)
     shown_after k e w l (inr q) = shown_there k e w l q
 
     -- a node with a row had one before
@@ -62,15 +62,15 @@ module _ (ix : List RowOf) (rows : List Row) (n : ℕ) (look : Lookup) (s : Show
         go true None q e = let z : ◌≡◌ {A = ℕ} 0 1 = cc in absurd (omega arith)
         go false None q e = let z : ◌≡◌ {A = ℕ} 0 1 = cc in absurd (omega arith)
 
-    pub row_changed : Shows ix (set rows r (f (get_or rows r w₀))) n (changed id f look)
+    pub row_changed : Shows ix (set rows r x) n (changed id f look)
     row_changed = record {
       within = s.within;
-      equal = length-set rows r (f (get_or rows r w₀)) ∙ s.equal;
+      equal = length-set rows r x ∙ s.equal;
       ascending = s.ascending;
-      inside = λ k e l. rw (length-set rows r (f (get_or rows r w₀))) (s.inside k e l);
+      inside = λ k e l. rw (length-set rows r x) (s.inside k e l);
       apart = s.apart;
       shown = λ k e w l. shown_after k e w l (cases_eq k h.0);
-      every = λ t w e. let x = had t w e in s.every t x.0 x.1;
+      every = λ t w e. let v = had t w e in s.every t v.0 v.1;
       once = s.once;
     }
 
@@ -112,13 +112,13 @@ some_stays t f look u w e = go (eqb u t)
 pub none_led : (among : Siblings) (p before t : ℕ) (look : Lookup) (u : ℕ) → look u ≡ None → led among p before t look u ≡ None
 none_led among p before t look u e = go (eqb before 0)
   where
-    go : (b : Bool) → cond b (changed p (with_link (first_link among) t) look) (changed before (with_link (next_link among) t) look) u ≡ None
-    go true = none_stays p (with_link (first_link among) t) look u e
-    go false = none_stays before (with_link (next_link among) t) look u e
+    go : (b : Bool) → cond b (changed p (with_first among t) look) (changed before (with_next among t) look) u ≡ None
+    go true = none_stays p (with_first among t) look u e
+    go false = none_stays before (with_next among t) look u e
 
 pub some_led : (among : Siblings) (p before t : ℕ) (look : Lookup) (u : ℕ) (w : Row) → look u ≡ Some w → (x : Row) × (led among p before t look u ≡ Some x)
 some_led among p before t look u w e = go (eqb before 0)
   where
-    go : (b : Bool) → (x : Row) × (cond b (changed p (with_link (first_link among) t) look) (changed before (with_link (next_link among) t) look) u ≡ Some x)
-    go true = some_stays p (with_link (first_link among) t) look u w e
-    go false = some_stays before (with_link (next_link among) t) look u w e
+    go : (b : Bool) → (x : Row) × (cond b (changed p (with_first among t) look) (changed before (with_next among t) look) u ≡ Some x)
+    go true = some_stays p (with_first among t) look u w e
+    go false = some_stays before (with_next among t) look u w e

@@ -1,5 +1,5 @@
 -- What a linked store's memory tells of the document that it holds.
-use Rattle.std.proofs.Common.{◌≡◌, ℕ, ◌≤◌, List, Some, None, Ok, Err, vec_items, vec_len, Option, sym, refl, subst, subst₂}
+use Rattle.std.proofs.Common.{◌≡◌, ℕ, ◌≤◌, List, Some, None, Ok, Err, vec_items, vec_len, Option, sym, refl, subst}
 use mathlib.Core.Logic.{∥∥₁_elim}
 use native.Mathlib.Nat.{ℕ_set}
 use native.Mathlib.Bridge.{le_prop}
@@ -14,17 +14,18 @@ use Rattle.store.proofs.Facts.{kept_prop, options_set}
 use Rattle.ordered.specs.declared.entries.RowOf.{RowOf}
 use Rattle.linked.specs.contracts.row.Row.{the_row}
 use Rattle.linked.specs.declared.row.Row.{Row}
+use Rattle.linked.specs.declared.table.Table.{Table}
 use Rattle.linked.specs.declared.linked_store.LinkedStore.{LinkedStore}
 use Rattle.linked.specs.Rows.{row_of}
-use Rattle.linked.specs.Tables.{Lookup, Shows}
+use Rattle.linked.specs.Tables.{Lookup, shows}
 use Rattle.linked.specs.Stores.{Stores, rows_of, one_document}
 use Rattle.linked.specs.Document.{document}
 
-abbrev Held : LinkedStore → Forest → Type 0
-Held s d = Stores (vec_items s.index) (vec_items s.rows) s.used s.root d
+abbrev pub Held : Table → ℕ → Forest → Type 0
+Held t root d = Stores (vec_items t.index) (vec_items t.rows) t.used root d
 
-pub holds : (s : LinkedStore) → ∥ Stores (vec_items s.index) (vec_items s.rows) s.used s.root (document s) ∥₁
-holds s = meant_holds (Held s) (one_document (vec_items s.index) (vec_items s.rows) s.used s.root) s.stands
+pub holds : (s : LinkedStore) → ∥ Held s.table s.root (document s) ∥₁
+holds s = meant_holds (Held s.table s.root) (one_document (vec_items s.table.index) (vec_items s.table.rows) s.table.used s.root) s.stands
 
 -- the document is the one that the memory stands for
 pub stands_for : (ix : List RowOf) (rows : List Row) (used root : ℕ) (t : ∥ ((d : Forest) × Stores ix rows used root d) ∥₁) (d : Forest) → ∥ Stores ix rows used root d ∥₁
@@ -34,19 +35,17 @@ stands_for ix rows used root t d s = ∥∥₁_elim s (documents_set _ _) (λ h.
 pub is_kept : (s : LinkedStore) → Kept (document s)
 is_kept s = ∥∥₁_elim (holds s) (kept_prop (document s)) (λ h. h.kept)
 
-pub is_counted : (s : LinkedStore) → s.used ≡ size (document s)
+pub is_counted : (s : LinkedStore) → s.table.used ≡ size (document s)
 is_counted s = ∥∥₁_elim (holds s) (ℕ_set _ _) (λ h. h.counted)
 
 pub is_rooted : (s : LinkedStore) → s.root ≡ first_of (document s)
 is_rooted s = ∥∥₁_elim (holds s) (ℕ_set _ _) (λ h. h.rooted)
 
-pub fits : (s : LinkedStore) → s.used ≤ vec_len s.index
-fits s = subst (λ (n : ℕ). s.used ≤ n) (sym s.index.ok.0) (∥∥₁_elim (holds s) le_prop (λ h. h.shows.within))
+pub fits : (s : LinkedStore) → s.table.used ≤ vec_len s.table.index
+fits s = subst (λ (n : ℕ). s.table.used ≤ n) (sym s.table.index.ok.0) (∥∥₁_elim (holds s) le_prop (λ h. h.shows.within))
 
-pub looked_up : (s : LinkedStore) (t : ℕ) (o : Option Row) (ix : List RowOf) (rows : List Row) → ix ≡ vec_items s.index → rows ≡ vec_items s.rows
-    → ((look : Lookup) → Shows ix rows s.used look → o ≡ look t) → o ≡ option_map row_of (view (document s) t)
-looked_up s t o ix rows e f g =
-    ∥∥₁_elim (holds s) (options_set (Coded-set the_row.coded) _ _) (λ h. g (rows_of (document s)) (subst₂ (λ (i : List RowOf) (r : List Row). Shows i r s.used (rows_of (document s))) (sym e) (sym f) h.shows))
+pub looked_up : (s : LinkedStore) (t : ℕ) (o : Option Row) → ((look : Lookup) → shows s.table look → o ≡ look t) → o ≡ option_map row_of (view (document s) t)
+looked_up s t o f = ∥∥₁_elim (holds s) (options_set (Coded-set the_row.coded) _ _) (λ h. f (rows_of (document s)) h.shows)
 
 -- a row that is there, and one that is not
 pub row_there : (w : Row) (o : Option View) → Some w ≡ option_map row_of o → Ok w ≡ asked row_of o

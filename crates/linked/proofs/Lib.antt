@@ -2,7 +2,6 @@ pub mod Finding
 pub mod Moving
 pub mod Holding
 pub mod Walking
-pub mod Making
 pub mod Leading
 pub mod Putting
 pub mod Taking

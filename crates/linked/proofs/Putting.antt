@@ -19,11 +19,10 @@ use Rattle.store.proofs.Puts as puts
 use Rattle.store.proofs.Linking.{put_links_child, put_links_attribute}
 use Rattle.store.proofs.Standing.{row_of_attributes}
 use Rattle.store.proofs.Telling.{SeenLabels}
-use Rattle.linked.specs.declared.row.Link.TheVariants.{Left}
 use Rattle.linked.specs.declared.row.Row.{Row}
 use Rattle.linked.specs.declared.row.Siblings.{Siblings}
 use Rattle.linked.specs.declared.row.Siblings.TheVariants.{Children, Attributes}
-use Rattle.linked.specs.Rows.{row, row_of, with_link, row_among, siblings_of}
+use Rattle.linked.specs.Rows.{row, row_of, with_left, row_among, siblings_of}
 use Rattle.linked.specs.Tables.{changed, with_row, led, linked_in}
 use Rattle.linked.specs.Stores.{rows_of}
 use Rattle.linked.specs.Places.{neighbours}
@@ -71,12 +70,12 @@ and_false false = refl
 module _ (room : ℕ) (d : Forest) (n : Node) (l : ℕ) (kept : Kept d) (ok : put_says room d n l ≡ Ok tt) where
   -- the new row and the others
   by_identifier : (among : Siblings) (before : ℕ) (w : Row) → w.node ≡ n → Some w ≡ rows_of (put_leaves room d n l) n.id
-      → ((u : ℕ) → (u ≡ n.id → ⊥) → changed w.next_sibling (with_link Left n.id) (led among n.parent before n.id (rows_of d)) u ≡ rows_of (put_leaves room d n l) u)
+      → ((u : ℕ) → (u ≡ n.id → ⊥) → changed w.next_sibling (with_left n.id) (led among n.parent before n.id (rows_of d)) u ≡ rows_of (put_leaves room d n l) u)
       → (u : ℕ) → linked_in among before w (rows_of d) u ≡ rows_of (put_leaves room d n l) u
   by_identifier among before w e here others u =
-      subst (λ (x : Node). with_row x.id w (changed w.next_sibling (with_link Left x.id) (led among x.parent before x.id (rows_of d))) u ≡ rows_of (put_leaves room d n l) u) (sym e) (go (cases_eq u n.id))
+      subst (λ (x : Node). with_row x.id w (changed w.next_sibling (with_left x.id) (led among x.parent before x.id (rows_of d))) u ≡ rows_of (put_leaves room d n l) u) (sym e) (go (cases_eq u n.id))
     where
-      go : (u ≡ n.id) ⊎ (u ≡ n.id → ⊥) → with_row n.id w (changed w.next_sibling (with_link Left n.id) (led among n.parent before n.id (rows_of d))) u ≡ rows_of (put_leaves room d n l) u
+      go : (u ≡ n.id) ⊎ (u ≡ n.id → ⊥) → with_row n.id w (changed w.next_sibling (with_left n.id) (led among n.parent before n.id (rows_of d))) u ≡ rows_of (put_leaves room d n l) u
       go (inl q) = cond-true (eqb u n.id) _ _ (eq-eqb u n.id q) ∙ here ∙ ap (rows_of (put_leaves room d n l)) (sym q)
       go (inr q) = cond-false (eqb u n.id) _ _ (ne_eqb u n.id q) ∙ others u q
 
@@ -93,13 +92,13 @@ module _ (room : ℕ) (d : Forest) (n : Node) (l : ℕ) (kept : Kept d) (ok : pu
         go (inl z) = let e = eq-eqb l 0 z in let f = ne_eqb u l (λ q. there (q ∙ z)) in rw (e, f, and_true (eqb u n.parent))
         go (inr z) = let e = ne_eqb l 0 z in rw (e, and_false (eqb u n.parent))
 
-    child_others : (u : ℕ) → (u ≡ n.id → ⊥) → changed (next_child d n l) (with_link Left n.id) (led Children n.parent l n.id (rows_of d)) u ≡ rows_of (put_leaves room d n l) u
+    child_others : (u : ℕ) → (u ≡ n.id → ⊥) → changed (next_child d n l) (with_left n.id) (led Children n.parent l n.id (rows_of d)) u ≡ rows_of (put_leaves room d n l) u
     child_others u ne = go (view d u) refl ∙ ap (option_map row_of) (sym ((put_links_child room d n l kept ok below child).1 u ne))
       where
-        go : (o : Option View) → view d u ≡ o → changed (next_child d n l) (with_link Left n.id) (led Children n.parent l n.id (rows_of d)) u ≡ option_map row_of (option_map (linked_child d n l u) (view d u))
+        go : (o : Option View) → view d u ≡ o → changed (next_child d n l) (with_left n.id) (led Children n.parent l n.id (rows_of d)) u ≡ option_map row_of (option_map (linked_child d n l u) (view d u))
         go None h =
             let z : rows_of d u ≡ None = ap (option_map row_of) h in
-            none_stays (next_child d n l) (with_link Left n.id) (led Children n.parent l n.id (rows_of d)) u (none_led Children n.parent l n.id (rows_of d) u z)
+            none_stays (next_child d n l) (with_left n.id) (led Children n.parent l n.id (rows_of d)) u (none_led Children n.parent l n.id (rows_of d) u z)
             ∙ ap (λ (o : Option View). option_map row_of (option_map (linked_child d n l u) o)) (sym h)
         go (Some v) h =
             child_led (rows_of d) n.parent l n.id u n.id (next_child d n l) v (ap (option_map row_of) h) (nonzero d kept u v h)
@@ -113,14 +112,14 @@ module _ (room : ℕ) (d : Forest) (n : Node) (l : ℕ) (kept : Kept d) (ok : pu
     around : (attribute_before d n.parent n.id ≡ previous_attribute d n) × (attribute_from d n.parent n.id ≡ read_at n.parent (λ as' k. next_label n.id as') d)
     around = around_new d kept n.parent n.id new
 
-    attribute_others : (u : ℕ) → (u ≡ n.id → ⊥) → changed 0 (with_link Left n.id) (led Attributes n.parent (attribute_before d n.parent n.id) n.id (rows_of d)) u ≡ rows_of (put_leaves room d n l) u
+    attribute_others : (u : ℕ) → (u ≡ n.id → ⊥) → changed 0 (with_left n.id) (led Attributes n.parent (attribute_before d n.parent n.id) n.id (rows_of d)) u ≡ rows_of (put_leaves room d n l) u
     attribute_others u ne = go (view d u) refl ∙ ap (option_map row_of) (sym ((put_links_attribute room d n l kept ok attribute).1 u ne))
       where
         go : (o : Option View) → view d u ≡ o
-            → changed 0 (with_link Left n.id) (led Attributes n.parent (attribute_before d n.parent n.id) n.id (rows_of d)) u ≡ option_map row_of (option_map (linked_attribute n (previous_attribute d n) u) (view d u))
+            → changed 0 (with_left n.id) (led Attributes n.parent (attribute_before d n.parent n.id) n.id (rows_of d)) u ≡ option_map row_of (option_map (linked_attribute n (previous_attribute d n) u) (view d u))
         go None h =
             let z : rows_of d u ≡ None = ap (option_map row_of) h in
-            none_stays 0 (with_link Left n.id) (led Attributes n.parent (attribute_before d n.parent n.id) n.id (rows_of d)) u (none_led Attributes n.parent (attribute_before d n.parent n.id) n.id (rows_of d) u z)
+            none_stays 0 (with_left n.id) (led Attributes n.parent (attribute_before d n.parent n.id) n.id (rows_of d)) u (none_led Attributes n.parent (attribute_before d n.parent n.id) n.id (rows_of d) u z)
             ∙ ap (λ (o : Option View). option_map row_of (option_map (linked_attribute n (previous_attribute d n) u) o)) (sym h)
         go (Some v) h =
             attribute_led (rows_of d) n.parent (attribute_before d n.parent n.id) n.id u n.id v (ap (option_map row_of) h) (nonzero d kept u v h)
@@ -149,7 +148,7 @@ module _ (room : ℕ) (d : Forest) (n : Node) (l : ℕ) (kept : Kept d) (ok : pu
     root_put : (u : ℕ) → linked_in Children l (row n l 0 (next_child d n l) 0 0) (rows_of d) u ≡ rows_of (put_leaves room d n l) u
     root_put =
         by_identifier Children l (row n l 0 (next_child d n l) 0 0) refl (same ∙ sym (seen_root n.id true (eq-eqb n.id n.id refl)))
-        (λ u ne. none_stays (next_child d n l) (with_link Left n.id) (led Children n.parent l n.id (rows_of d)) u (none_led Children n.parent l n.id (rows_of d) u (none u)) ∙ sym (seen_root u false (ne_eqb n.id u (λ q. ne (sym q)))))
+        (λ u ne. none_stays (next_child d n l) (with_left n.id) (led Children n.parent l n.id (rows_of d)) u (none_led Children n.parent l n.id (rows_of d) u (none u)) ∙ sym (seen_root u false (ne_eqb n.id u (λ q. ne (sym q)))))
       where
         same : Some (row n l 0 (next_child d n l) 0 0) ≡ Some (row n 0 0 0 0 0)
         same = rw (nothing_behind, first)

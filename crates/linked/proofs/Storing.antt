@@ -1,9 +1,7 @@
 -- What the memory stands for after a write.
 use Rattle.std.proofs.Common.{◌≡◌, ℕ, ◌+◌, ◌-◌, ◌<◌, ◌≤◌, Bool, true, false, cond, eqb, ◌⊎◌, List, [], length, Some, None, Ok, vec_items, vec_len, Option, sym, refl, ap, ◌∙◌, subst, subst₂, inl, inr, arith, length-append, length-drop, length-take}
 use mathlib.Core.Logic.{∥∥₁_map}
-use Rattle.std.specs.Vec.{with_items}
 use Rattle.std.specs.Option.{option_map}
-use Rattle.std.proofs.lemmas.List.{with_items_is}
 use Rattle.std.proofs.lemmas.Bool.{eq-eqb, ne_eqb, eqb-false, cond-true, cond-false, cases_lt, cases_eq}
 use Rattle.records.specs.declared.nodes.Node.{Node}
 use Rattle.document.specs.Tree.{Label, Forest, nil, node, size}
@@ -23,16 +21,17 @@ use Rattle.store.proofs.Questions.{seen_id}
 use Rattle.store.proofs.Takes as takes
 use Rattle.store.proofs.Standing.{NodeStands, AttributeStands, stands}
 use Rattle.ordered.specs.declared.entries.RowOf.{RowOf}
+use Rattle.linked.specs.declared.table.Table.{Table}
 use Rattle.linked.specs.declared.row.Row.{Row}
 use Rattle.linked.specs.declared.row.Siblings.{Siblings}
 use Rattle.linked.specs.declared.row.Siblings.TheVariants.{Children, Attributes}
 use Rattle.linked.specs.declared.linked_store.LinkedStore.{LinkedStore}
 use Rattle.linked.specs.Rows.{seen, row, row_of, with_record, row_among, siblings_of}
-use Rattle.linked.specs.Tables.{Lookup, Shows, changed, linked_in, linked_out}
+use Rattle.linked.specs.Tables.{Lookup, Shows, shows, changed, linked_in, linked_out}
 use Rattle.linked.specs.Stores.{Stores, rows_of}
 use Rattle.linked.specs.Places.{neighbours, stands_behind}
 use Rattle.linked.specs.Document.{document}
-use Rattle.linked.proofs.Holding.{holds}
+use Rattle.linked.proofs.Holding.{Held, holds}
 use Rattle.linked.proofs.Putting.{put_shown}
 use Rattle.linked.proofs.Taking.{take_shown}
 
@@ -75,51 +74,49 @@ among_node : (a : Siblings) (n : Node) (l m : ℕ) → (row_among a n l m).node 
 among_node Children n l m = refl
 among_node Attributes n l m = refl
 
-module _ (s : LinkedStore) (n : Node) (l : ℕ) (ok : put_says (vec_len s.index) (document s) n l ≡ Ok tt) where
-  pub has_room : Stores (vec_items s.index) (vec_items s.rows) s.used s.root (document s) → s.used < length (vec_items s.index)
+module _ (s : LinkedStore) (n : Node) (l : ℕ) (ok : put_says (vec_len s.table.index) (document s) n l ≡ Ok tt) where
+  pub has_room : Held s.table s.root (document s) → s.table.used < vec_len s.table.index
   has_room h =
-      let a = puts.accepted (vec_len s.index) (document s) n l ok in
+      let a = puts.accepted (vec_len s.table.index) (document s) n l ok in
       let w = h.shows.within in
       let c = h.counted in
-      let e = s.index.ok.0 in
-      go (cases_lt s.used (length (vec_items s.index))) a w c e
+      let e = s.table.index.ok.0 in
+      go (cases_lt s.table.used (vec_len s.table.index)) a w c e
     where
-      go : (s.used < length (vec_items s.index)) ⊎ (length (vec_items s.index) ≤ s.used) → puts.Accepted (vec_len s.index) (document s) n l → s.used ≤ length (vec_items s.index)
-          → s.used ≡ size (document s) → vec_len s.index ≡ length (vec_items s.index) → s.used < length (vec_items s.index)
+      go : (s.table.used < vec_len s.table.index) ⊎ (vec_len s.table.index ≤ s.table.used) → puts.Accepted (vec_len s.table.index) (document s) n l → s.table.used ≤ length (vec_items s.table.index)
+          → s.table.used ≡ size (document s) → vec_len s.table.index ≡ length (vec_items s.table.index) → s.table.used < vec_len s.table.index
       go (inl h) a w c e = h
       go (inr h) a w c e = absurd (a.room_left (omega arith))
 
-  same : Stores (vec_items s.index) (vec_items s.rows) s.used s.root (document s)
+  same : Held s.table s.root (document s)
       → (among : Siblings) → among ≡ siblings_of n.kind → (pair : ℕ × ℕ) → pair ≡ neighbours (document s) among n l → (w : Row) → w ≡ row_among among n l pair.1
-      → (u : ℕ) → linked_in among pair.0 w (rows_of (document s)) u ≡ rows_of (put_leaves (vec_len s.index) (document s) n l) u
+      → (u : ℕ) → linked_in among pair.0 w (rows_of (document s)) u ≡ rows_of (put_leaves (vec_len s.table.index) (document s) n l) u
   same h among ea pair ep w ew u =
-      subst (λ (x : Row). linked_in among pair.0 x (rows_of (document s)) u ≡ rows_of (put_leaves (vec_len s.index) (document s) n l) u) (sym ew)
-      (subst (λ (q : ℕ × ℕ). linked_in among q.0 (row_among among n l q.1) (rows_of (document s)) u ≡ rows_of (put_leaves (vec_len s.index) (document s) n l) u) (sym ep)
-      (subst (λ (a : Siblings). linked_in a (neighbours (document s) a n l).0 (row_among a n l (neighbours (document s) a n l).1) (rows_of (document s)) u ≡ rows_of (put_leaves (vec_len s.index) (document s) n l) u) (sym ea)
-      (put_shown (vec_len s.index) (document s) n l h.kept ok u)))
+      subst (λ (x : Row). linked_in among pair.0 x (rows_of (document s)) u ≡ rows_of (put_leaves (vec_len s.table.index) (document s) n l) u) (sym ew)
+      (subst (λ (q : ℕ × ℕ). linked_in among q.0 (row_among among n l q.1) (rows_of (document s)) u ≡ rows_of (put_leaves (vec_len s.table.index) (document s) n l) u) (sym ep)
+      (subst (λ (a : Siblings). linked_in a (neighbours (document s) a n l).0 (row_among a n l (neighbours (document s) a n l).1) (rows_of (document s)) u ≡ rows_of (put_leaves (vec_len s.table.index) (document s) n l) u) (sym ea)
+      (put_shown (vec_len s.table.index) (document s) n l h.kept ok u)))
 
-  pub put_stored : (A A' : List RowOf) (B B' : List Row) (among : Siblings) (pair : ℕ × ℕ) (w : Row) (root : ℕ)
-      → A ≡ vec_items s.index → B ≡ vec_items s.rows → among ≡ siblings_of n.kind → pair ≡ neighbours (document s) among n l → w ≡ row_among among n l pair.1
-      → root ≡ cond (eqb n.parent 0) n.id s.root
-      → ((look : Lookup) → Shows A B s.used look → look w.node.id ≡ None → s.used < length A → Shows A' B' (s.used + 1) (linked_in among pair.0 w look))
-      → length A' ≡ s.index.len → length B' ≡ s.rows.len
-      → ∥ Stores (vec_items (with_items s.index A')) (vec_items (with_items s.rows B')) (s.used + 1) root (put_leaves (vec_len s.index) (document s) n l) ∥₁
-  put_stored A A' B B' among pair w root eA eB ea ep ew er E lA lB = ∥∥₁_map (holds s) (λ h.
-      let a = puts.accepted (vec_len s.index) (document s) n l ok in
+  pub put_stored : (t : Table) (among : Siblings) (pair : ℕ × ℕ) (w : Row) (root : ℕ)
+      → among ≡ siblings_of n.kind → pair ≡ neighbours (document s) among n l → w ≡ row_among among n l pair.1 → root ≡ cond (eqb n.parent 0) n.id s.root
+      → (s.table.used < vec_len s.table.index → t.used ≡ s.table.used + 1)
+      → ((look : Lookup) → shows s.table look → look w.node.id ≡ None → s.table.used < vec_len s.table.index → shows t (linked_in among pair.0 w look))
+      → ∥ Held t root (put_leaves (vec_len s.table.index) (document s) n l) ∥₁
+  put_stored t among pair w root ea ep ew er more E = ∥∥₁_map (holds s) (λ h.
+      let a = puts.accepted (vec_len s.table.index) (document s) n l ok in
       let id : w.node.id ≡ n.id = ap (λ (x : Row). x.node.id) ew ∙ ap (λ (x : Node). x.id) (among_node among n l pair.1) in
       let none : rows_of (document s) w.node.id ≡ None = ap (rows_of (document s)) id ∙ ap (option_map row_of) (absent n.id 0 0 (document s) a.new) in
-      let before : Shows A B s.used (rows_of (document s)) = subst₂ (λ (x : List RowOf) (y : List Row). Shows x y s.used (rows_of (document s))) (sym eA) (sym eB) h.shows in
-      let after = E (rows_of (document s)) before none (subst (λ (x : List RowOf). s.used < length x) (sym eA) (has_room h)) in
-      let leaves = puts.leaves_accepted (vec_len s.index) (document s) n l ok in
+      let leaves = puts.leaves_accepted (vec_len s.table.index) (document s) n l ok in
       let c = h.counted in
-      let grown = puts.put_size (vec_len s.index) (document s) n l h.kept a in
-      subst₂ (λ (x : List RowOf) (y : List Row). Stores x y (s.used + 1) root (put_leaves (vec_len s.index) (document s) n l)) (sym (with_items_is s.index A' lA)) (sym (with_items_is s.rows B' lB))
-      (record {
-        kept = subst Kept (sym leaves) (puts.put_kept (vec_len s.index) (document s) n l h.kept a);
+      let m = more (has_room h) in
+      let grown = puts.put_size (vec_len s.table.index) (document s) n l h.kept a in
+      record {
+        kept = subst Kept (sym leaves) (puts.put_kept (vec_len s.table.index) (document s) n l h.kept a);
         rooted = er ∙ ap (λ (r : ℕ). cond (eqb n.parent 0) n.id r) h.rooted ∙ sym (ap first_of leaves ∙ put_root (document s) n l);
         counted = omega (arith, ap size leaves);
-        shows = shown_as A' B' (s.used + 1) (linked_in among pair.0 w (rows_of (document s))) (rows_of (put_leaves (vec_len s.index) (document s) n l)) (same h among ea pair ep w ew) after;
-      }))
+        shows = shown_as (vec_items t.index) (vec_items t.rows) t.used (linked_in among pair.0 w (rows_of (document s))) (rows_of (put_leaves (vec_len s.table.index) (document s) n l)) (same h among ea pair ep w ew)
+            (E (rows_of (document s)) h.shows none (has_room h));
+      })
 
 -- ---- a node taken out
 -- without its root a document is nothing; without another node it keeps its root
@@ -154,27 +151,24 @@ seen_again : (w : Row) (o : Option View) → o ≡ Some (seen w) → option_map 
 seen_again w o e = ap (option_map row_of) e
 
 module _ (s : LinkedStore) (w : Row) (ok : take_says (document s) w.node.id ≡ Ok tt) (at : view (document s) w.node.id ≡ Some (seen w)) where
-  pub take_stored : (A A' : List RowOf) (B B' : List Row) (among : Siblings) (before root : ℕ)
-      → A ≡ vec_items s.index → B ≡ vec_items s.rows → among ≡ siblings_of w.node.kind → before ≡ stands_behind (document s) among w
-      → root ≡ cond (eqb w.node.parent 0) 0 s.root
-      → ((look : Lookup) → Shows A B s.used look → look w.node.id ≡ Some w → Shows A' B' (s.used - 1) (linked_out among before w look))
-      → length A' ≡ s.index.len → length B' ≡ s.rows.len
-      → ∥ Stores (vec_items (with_items s.index A')) (vec_items (with_items s.rows B')) (s.used - 1) root (take_leaves (document s) w.node.id) ∥₁
-  take_stored A A' B B' among before root eA eB ea eb er E lA lB = ∥∥₁_map (holds s) (λ h.
-      let held : Shows A B s.used (rows_of (document s)) = subst₂ (λ (x : List RowOf) (y : List Row). Shows x y s.used (rows_of (document s))) (sym eA) (sym eB) h.shows in
-      let after = E (rows_of (document s)) held (seen_again w (view (document s) w.node.id) at) in
+  pub take_stored : (t : Table) (among : Siblings) (before root : ℕ)
+      → among ≡ siblings_of w.node.kind → before ≡ stands_behind (document s) among w → root ≡ cond (eqb w.node.parent 0) 0 s.root
+      → ((look : Lookup) → shows s.table look → look w.node.id ≡ Some w → (t.used ≡ s.table.used - 1) × shows t (linked_out among before w look))
+      → ∥ Held t root (take_leaves (document s) w.node.id) ∥₁
+  take_stored t among before root ea eb er E = ∥∥₁_map (holds s) (λ h.
+      let after = E (rows_of (document s)) h.shows (seen_again w (view (document s) w.node.id) at) in
       let leaves = takes.leaves_accepted (document s) w.node.id ok in
       let c = h.counted in
+      let m = after.0 in
       let fewer = take_size (document s) w.node.id h.kept ok in
-      subst₂ (λ (x : List RowOf) (y : List Row). Stores x y (s.used - 1) root (take_leaves (document s) w.node.id)) (sym (with_items_is s.index A' lA)) (sym (with_items_is s.rows B' lB))
-      (record {
+      record {
         kept = (takes.take_keeps (size (document s)) (document s) w.node.id h.kept (omega arith)).0;
         rooted = er ∙ ap (λ (r : ℕ). cond (eqb w.node.parent 0) 0 r) h.rooted ∙ sym (ap first_of leaves ∙ take_root (document s) w.node.id (seen w) h.kept at);
         counted = omega arith;
-        shows = shown_as A' B' (s.used - 1) (linked_out among before w (rows_of (document s))) (rows_of (take_leaves (document s) w.node.id)) (same h among ea before eb) after;
-      }))
+        shows = shown_as (vec_items t.index) (vec_items t.rows) t.used (linked_out among before w (rows_of (document s))) (rows_of (take_leaves (document s) w.node.id)) (same h among ea before eb) after.1;
+      })
     where
-      same : Stores (vec_items s.index) (vec_items s.rows) s.used s.root (document s)
+      same : Held s.table s.root (document s)
           → (among : Siblings) → among ≡ siblings_of w.node.kind → (before : ℕ) → before ≡ stands_behind (document s) among w
           → (u : ℕ) → linked_out among before w (rows_of (document s)) u ≡ rows_of (take_leaves (document s) w.node.id) u
       same h among ea before eb u =
@@ -182,54 +176,7 @@ module _ (s : LinkedStore) (w : Row) (ok : take_says (document s) w.node.id ≡ 
           (subst (λ (a : Siblings). linked_out a (stands_behind (document s) a w) w (rows_of (document s)) u ≡ rows_of (take_leaves (document s) w.node.id) u) (sym ea)
           (take_shown (document s) w.node.id (seen w) h.kept at ok u))
 
-  pub is_used : Stores (vec_items s.index) (vec_items s.rows) s.used s.root (document s) → 1 ≤ s.used
-  is_used h = omega (arith, take_size (document s) w.node.id h.kept ok, h.counted)
-
--- ---- another record for a node
-rewritten : (d d' : Forest) (id : ℕ) (f : Node → Node) (x : Node) (v : View) → ((u : ℕ) → view d' u ≡ option_map (reshown f) (view d u)) → ((y : Node) → (y.id ≡ id → ⊥) → f y ≡ y)
-    → view d id ≡ Some v → v.row ≡ x → (u : ℕ) → changed id (with_record (f x)) (rows_of d) u ≡ rows_of d' u
-rewritten d d' id f x v re others at e u = go (cases_eq u id) (view d u) refl ∙ ap (option_map row_of) (sym (re u))
-  where
-    go : (u ≡ id) ⊎ (u ≡ id → ⊥) → (o : Option View) → view d u ≡ o → changed id (with_record (f x)) (rows_of d) u ≡ option_map row_of (option_map (reshown f) (view d u))
-    go (inl q) o h =
-        let here : view d u ≡ Some v = ap (view d) q ∙ at in
-        cond-true (eqb u id) _ _ (eq-eqb u id q) ∙ rw here (ap (λ (y : Node). Some (row (f y) v.left v.first_child v.next_sibling v.first_attribute v.next_attribute)) (sym e))
-    go (inr q) None h = cond-false (eqb u id) _ _ (ne_eqb u id q) ∙ rw h
-    go (inr q) (Some y) h =
-        let same : f y.row ≡ y.row = others y.row (λ z. q (sym (seen_id u 0 0 d y h) ∙ z)) in
-        cond-false (eqb u id) _ _ (ne_eqb u id q) ∙ rw h (ap (λ (x : Node). Some (row x y.left y.first_child y.next_sibling y.first_attribute y.next_attribute)) (sym same))
-
-module _ (s : LinkedStore) (id : ℕ) (f : Node → Node) (others : (y : Node) → (y.id ≡ id → ⊥) → f y ≡ y) (d' : Forest) (re : (u : ℕ) → view d' u ≡ option_map (reshown f) (view (document s) u))
-    (kept : Kept (document s) → Kept d' × (size d' ≡ size (document s))) (first : first_of d' ≡ first_of (document s)) where
-  pub edit_stored : (A : List RowOf) (B B' : List Row) (x y : Node) (v : View)
-      → A ≡ vec_items s.index → B ≡ vec_items s.rows → view (document s) id ≡ Some v → v.row ≡ x → y ≡ f x
-      → ((look : Lookup) → Shows A B s.used look → Shows A B' s.used (changed id (with_record y) look))
-      → length B' ≡ s.rows.len
-      → ∥ Stores (vec_items s.index) (vec_items (with_items s.rows B')) s.used s.root d' ∥₁
-  edit_stored A B B' x y v eA eB at ev ey E lB = ∥∥₁_map (holds s) (λ h.
-      let held : Shows A B s.used (rows_of (document s)) = subst₂ (λ (i : List RowOf) (j : List Row). Shows i j s.used (rows_of (document s))) (sym eA) (sym eB) h.shows in
-      let after : Shows (vec_items s.index) B' s.used (changed id (with_record y) (rows_of (document s))) = subst (λ (i : List RowOf). Shows i B' s.used (changed id (with_record y) (rows_of (document s)))) eA (E (rows_of (document s)) held) in
-      let k = kept h.kept in
-      subst (λ (j : List Row). Stores (vec_items s.index) j s.used s.root d') (sym (with_items_is s.rows B' lB))
-      (record {
-        kept = k.0;
-        rooted = h.rooted ∙ sym first;
-        counted = h.counted ∙ sym k.1;
-        shows = shown_as (vec_items s.index) B' s.used (changed id (with_record y) (rows_of (document s))) (rows_of d')
-            (λ u. ap (λ (z : Node). changed id (with_record z) (rows_of (document s)) u) ey ∙ rewritten (document s) d' id f x v re others at ev u) after;
-      }))
-
-first_edited : (t : ℕ) (e : Label → Label) → ((r : Label) → (e r).id ≡ r.id) → (d : Forest) → first_of (edited t e d) ≡ first_of d
-first_edited t e same d = first_stays t (edit_labels t e) (edit_tree e) (λ r as' k f. same r) d
-
--- the answers that lead to a row
-pub told : (d : Forest) (id : ℕ) (x : Node) → Ok x ≡ record_says d id → (v : View) × (view d id ≡ Some v) × (v.row ≡ x)
-told d id x e = go (view d id) refl e
-  where
-    go : (o : Option View) → view d id ≡ o → Ok x ≡ asked (λ v. v.row) o → (v : View) × (view d id ≡ Some v) × (v.row ≡ x)
-    go None h q = let z : ◌≡◌ {A = ℕ} 0 1 = cc in absurd (omega arith)
-    go (Some v) h q = (v, h, cc)
-
+-- the answer that leads to a row
 pub row_told : (d : Forest) (id : ℕ) (w : Row) → Ok w ≡ asked row_of (view d id) → (w.node.id ≡ id) × (view d w.node.id ≡ Some (seen w))
 row_told d id w e = go (view d id) refl e
   where
@@ -240,25 +187,55 @@ row_told d id w e = go (view d id) refl e
         let i : w.node.id ≡ id = ap (λ (x : Row). x.node.id) same ∙ seen_id id 0 0 d v h in
         (i, ap (view d) i ∙ h ∙ ap (λ (x : Row). Some (seen x)) (sym same))
 
--- ---- another name, another value
-module _ (s : LinkedStore) (id : ℕ) (A : List RowOf) (B B' : List Row) (x : Node) (eA : A ≡ vec_items s.index) (eB : B ≡ vec_items s.rows) (at : Ok x ≡ record_says (document s) id)
-    (lB : length B' ≡ s.rows.len) where
-  pub rename_stored : (m : ℕ) → rename_says (document s) id m ≡ Ok tt
-      → ((look : Lookup) → Shows A B s.used look → Shows A B' s.used (changed id (with_record (record { id = x.id; parent = x.parent; kind = x.kind; name = m; value = x.value })) look))
-      → ∥ Stores (vec_items s.index) (vec_items (with_items s.rows B')) s.used s.root (rename_leaves (document s) id m) ∥₁
-  rename_stored m ok E =
-      let v = told (document s) id x at in
-      let i : x.id ≡ id = ap (λ (y : Node). y.id) (sym v.2) ∙ seen_id id 0 0 (document s) v.0 v.1 in
-      edit_stored s id (renamed_row id m) (λ y ne. cond-false _ _ _ (ne_eqb y.id id ne)) (rename_leaves (document s) id m) (rename_reshows (document s) id m ok) (rename_keeps (document s) id m)
-      (ap (λ (r : Answer). first_of (after r (edited id (named m) (document s)) (document s))) ok ∙ first_edited id (named m) (λ r. refl) (document s))
-      A B B' x _ v.0 eA eB v.1 v.2 (sym (cond-true _ _ _ (eq-eqb x.id id i))) E lB
+-- ---- another record for a node
+rewritten : (d d' : Forest) (id : ℕ) (f g : Node → Node) → ((u : ℕ) → view d' u ≡ option_map (reshown f) (view d u)) → ((y : Node) → f y ≡ cond (eqb y.id id) (g y) y)
+    → (u : ℕ) → changed id (with_record g) (rows_of d) u ≡ rows_of d' u
+rewritten d d' id f g re is u = go (view d u) refl ∙ ap (option_map row_of) (sym (re u))
+  where
+    by : (b : Bool) (y : View) → cond b (Some (with_record g (row_of y))) (Some (row_of y)) ≡ Some (row (cond b (g y.row) y.row) y.left y.first_child y.next_sibling y.first_attribute y.next_attribute)
+    by true y = refl
+    by false y = refl
 
-  pub value_stored : (m : ℕ) → set_value_says (document s) id ≡ Ok tt
-      → ((look : Lookup) → Shows A B s.used look → Shows A B' s.used (changed id (with_record (record { id = x.id; parent = x.parent; kind = x.kind; name = x.name; value = m })) look))
-      → ∥ Stores (vec_items s.index) (vec_items (with_items s.rows B')) s.used s.root (set_value_leaves (document s) id m) ∥₁
-  value_stored m ok E =
-      let v = told (document s) id x at in
-      let i : x.id ≡ id = ap (λ (y : Node). y.id) (sym v.2) ∙ seen_id id 0 0 (document s) v.0 v.1 in
-      edit_stored s id (revalued_row id m) (λ y ne. cond-false _ _ _ (ne_eqb y.id id ne)) (set_value_leaves (document s) id m) (set_value_reshows (document s) id m ok) (set_value_keeps (document s) id m)
+    none : (b : Bool) → cond b (option_map (with_record g) None) None ≡ None
+    none true = refl
+    none false = refl
+
+    go : (o : Option View) → view d u ≡ o → changed id (with_record g) (rows_of d) u ≡ option_map row_of (option_map (reshown f) (view d u))
+    go None h = rw h (none (eqb u id))
+    go (Some y) h =
+        let i : y.row.id ≡ u = seen_id u 0 0 d y h in
+        rw h (by (eqb u id) y ∙ ap (λ (x : Node). Some (row x y.left y.first_child y.next_sibling y.first_attribute y.next_attribute)) (ap (λ (k : ℕ). cond (eqb k id) (g y.row) y.row) (sym i) ∙ sym (is y.row)))
+
+first_edited : (t : ℕ) (e : Label → Label) → ((r : Label) → (e r).id ≡ r.id) → (d : Forest) → first_of (edited t e d) ≡ first_of d
+first_edited t e same d = first_stays t (edit_labels t e) (edit_tree e) (λ r as' k f. same r) d
+
+abbrev pub with_name : ℕ → Node → Node
+with_name m x = record { id = x.id; parent = x.parent; kind = x.kind; name = m; value = x.value }
+
+abbrev pub with_value : ℕ → Node → Node
+with_value m x = record { id = x.id; parent = x.parent; kind = x.kind; name = x.name; value = m }
+
+module _ (s : LinkedStore) (id : ℕ) (t : Table) (as_many : t.used ≡ s.table.used) where
+  edit_stored : (f g : Node → Node) (d' : Forest) → ((u : ℕ) → view d' u ≡ option_map (reshown f) (view (document s) u)) → ((y : Node) → f y ≡ cond (eqb y.id id) (g y) y)
+      → (Kept (document s) → Kept d' × (size d' ≡ size (document s))) → first_of d' ≡ first_of (document s)
+      → ((look : Lookup) → shows s.table look → shows t (changed id (with_record g) look)) → ∥ Held t s.root d' ∥₁
+  edit_stored f g d' re is kept first E = ∥∥₁_map (holds s) (λ h.
+      let k = kept h.kept in
+      record {
+        kept = k.0;
+        rooted = h.rooted ∙ sym first;
+        counted = as_many ∙ h.counted ∙ sym k.1;
+        shows = shown_as (vec_items t.index) (vec_items t.rows) t.used (changed id (with_record g) (rows_of (document s))) (rows_of d') (rewritten (document s) d' id f g re is) (E (rows_of (document s)) h.shows);
+      })
+
+  pub rename_stored : (m : ℕ) → rename_says (document s) id m ≡ Ok tt → ((look : Lookup) → shows s.table look → shows t (changed id (with_record (with_name m)) look))
+      → ∥ Held t s.root (rename_leaves (document s) id m) ∥₁
+  rename_stored m ok =
+      edit_stored (renamed_row id m) (with_name m) (rename_leaves (document s) id m) (rename_reshows (document s) id m ok) (λ y. refl) (rename_keeps (document s) id m)
+      (ap (λ (r : Answer). first_of (after r (edited id (named m) (document s)) (document s))) ok ∙ first_edited id (named m) (λ r. refl) (document s))
+
+  pub value_stored : (m : ℕ) → set_value_says (document s) id ≡ Ok tt → ((look : Lookup) → shows s.table look → shows t (changed id (with_record (with_value m)) look))
+      → ∥ Held t s.root (set_value_leaves (document s) id m) ∥₁
+  value_stored m ok =
+      edit_stored (revalued_row id m) (with_value m) (set_value_leaves (document s) id m) (set_value_reshows (document s) id m ok) (λ y. refl) (set_value_keeps (document s) id m)
       (ap (λ (r : Answer). first_of (after r (edited id (valued m) (document s)) (document s))) ok ∙ first_edited id (valued m) (λ r. refl) (document s))
-      A B B' x _ v.0 eA eB v.1 v.2 (sym (cond-true _ _ _ (eq-eqb x.id id i))) E lB

@@ -13,10 +13,9 @@ use Rattle.store.specs.Links.{attribute_before, relinked_past, relinked_past_chi
 use Rattle.store.proofs.Questions.{seen_id}
 use Rattle.store.proofs.Relinking.{take_relinks}
 use Rattle.store.proofs.Standing.{NodeStands, AttributeStands, stands}
-use Rattle.linked.specs.declared.row.Link.TheVariants.{Left}
 use Rattle.linked.specs.declared.row.Siblings.{Siblings}
 use Rattle.linked.specs.declared.row.Siblings.TheVariants.{Children, Attributes}
-use Rattle.linked.specs.Rows.{row_of, with_link, next_among, siblings_of}
+use Rattle.linked.specs.Rows.{row_of, with_left, next_among, siblings_of}
 use Rattle.linked.specs.Tables.{Lookup, changed, led, linked_out}
 use Rattle.linked.specs.Stores.{rows_of}
 use Rattle.linked.specs.Places.{stands_behind}
@@ -27,7 +26,7 @@ use Rattle.linked.proofs.Putting.{nonzero}
 module _ (d : Forest) (t : ℕ) (w : View) (kept : Kept d) (at : view d t ≡ Some w) (ok : take_says d t ≡ Ok tt) where
   -- the links that the removal of w leads elsewhere
   abbrev relink : Siblings → ℕ → Lookup
-  relink among before = changed w.next_sibling (with_link Left w.left) (led among w.row.parent before (next_among among (row_of w)) (rows_of d))
+  relink among before = changed w.next_sibling (with_left w.left) (led among w.row.parent before (next_among among (row_of w)) (rows_of d))
 
   others : (among : Siblings) (before u : ℕ) → (u ≡ t → ⊥)
       → ((v : View) → view d u ≡ Some v → relink among before u ≡ Some (row_of (relinked_past d t w u v))) → relink among before u ≡ rows_of (take_leaves d t) u
@@ -36,7 +35,7 @@ module _ (d : Forest) (t : ℕ) (w : View) (kept : Kept d) (at : view d t ≡ So
       go : (o : Option View) → view d u ≡ o → relink among before u ≡ option_map row_of (option_map (relinked_past d t w u) (view d u))
       go None h =
           let z : rows_of d u ≡ None = ap (option_map row_of) h in
-          none_stays w.next_sibling (with_link Left w.left) (led among w.row.parent before (next_among among (row_of w)) (rows_of d)) u
+          none_stays w.next_sibling (with_left w.left) (led among w.row.parent before (next_among among (row_of w)) (rows_of d)) u
           (none_led among w.row.parent before (next_among among (row_of w)) (rows_of d) u z)
           ∙ ap (λ (o : Option View). option_map row_of (option_map (relinked_past d t w u) o)) (sym h)
       go (Some v) h = f v h ∙ ap (λ (o : Option View). option_map row_of (option_map (relinked_past d t w u) o)) (sym h)
@@ -62,7 +61,7 @@ module _ (d : Forest) (t : ℕ) (w : View) (kept : Kept d) (at : view d t ≡ So
   attribute_shown : is_attribute w.row.kind ≡ true → w.next_sibling ≡ 0 → Shown Attributes
   attribute_shown k z = by_identifier Attributes (λ u ne. others Attributes (attribute_before d w.row.parent w.row.id) u ne (λ v h.
       let m : ℕ = attribute_before d w.row.parent w.row.id in
-      ap (λ (i : ℕ). changed i (with_link Left w.left) (led Attributes w.row.parent m w.next_attribute (rows_of d)) u) z
+      ap (λ (i : ℕ). changed i (with_left w.left) (led Attributes w.row.parent m w.next_attribute (rows_of d)) u) z
       ∙ attribute_led (rows_of d) w.row.parent m w.next_attribute u w.left v (ap (option_map row_of) h) (nonzero d kept u v h)
       ∙ ap (λ (i : ℕ). Some (row_of (relinked_past_attribute w (attribute_before d w.row.parent i) u v))) (seen_id t 0 0 d w at)
       ∙ ap (λ (x : View). Some (row_of x)) (sym (cond-true (is_attribute w.row.kind) (relinked_past_attribute w (attribute_before d w.row.parent t) u v) (relinked_past_child w u v) k))))

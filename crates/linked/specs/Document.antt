@@ -7,4 +7,4 @@ use Rattle.linked.specs.Stores.{Stores, one_document}
 
 abbrev pub document : LinkedStore → Forest
 document s =
-    meant (Stores (vec_items s.index) (vec_items s.rows) s.used s.root) (one_document (vec_items s.index) (vec_items s.rows) s.used s.root) s.stands
+    meant (Stores (vec_items s.table.index) (vec_items s.table.rows) s.table.used s.root) (one_document (vec_items s.table.index) (vec_items s.table.rows) s.table.used s.root) s.stands

@@ -5,10 +5,8 @@ use Rattle.records.specs.declared.nodes.Kind.TheVariants.{Element, Attribute, Te
 use Rattle.records.specs.declared.nodes.Node.{Node}
 use Rattle.store.specs.Views.{View}
 use Rattle.linked.specs.declared.row.Row.{Row}
-use Rattle.linked.specs.declared.row.Link.{Link}
 use Rattle.linked.specs.declared.row.Siblings.{Siblings}
 use Rattle.linked.specs.declared.row.Siblings.TheVariants.{Children, Attributes}
-use Rattle.linked.specs.declared.row.Link.TheVariants.{Left, FirstChild, NextSibling, FirstAttribute, NextAttribute}
 
 abbrev pub row : Node → ℕ → ℕ → ℕ → ℕ → ℕ → Row
 row x l c n a m = record { node = x; left = l; first_child = c; next_sibling = n; first_attribute = a; next_attribute = m }
@@ -26,25 +24,21 @@ seen w = record {
 abbrev pub row_of : View → Row
 row_of v = row v.row v.left v.first_child v.next_sibling v.first_attribute v.next_attribute
 
--- a row with one link changed, and with another record
-abbrev pub with_link : Link → ℕ → Row → Row
-with_link Left t w = row w.node t w.first_child w.next_sibling w.first_attribute w.next_attribute
-with_link FirstChild t w = row w.node w.left t w.next_sibling w.first_attribute w.next_attribute
-with_link NextSibling t w = row w.node w.left w.first_child t w.first_attribute w.next_attribute
-with_link FirstAttribute t w = row w.node w.left w.first_child w.next_sibling t w.next_attribute
-with_link NextAttribute t w = row w.node w.left w.first_child w.next_sibling w.first_attribute t
+-- a row with another record, and with one link changed
+abbrev pub with_record : (Node → Node) → Row → Row
+with_record f w = row (f w.node) w.left w.first_child w.next_sibling w.first_attribute w.next_attribute
 
-abbrev pub with_record : Node → Row → Row
-with_record x w = row x w.left w.first_child w.next_sibling w.first_attribute w.next_attribute
+abbrev pub with_left : ℕ → Row → Row
+with_left t w = row w.node t w.first_child w.next_sibling w.first_attribute w.next_attribute
 
--- the links among siblings
-abbrev pub first_link : Siblings → Link
-first_link Children = FirstChild
-first_link Attributes = FirstAttribute
+-- the links among siblings: a parent's to the first, and that of one to the next
+abbrev pub with_first : Siblings → ℕ → Row → Row
+with_first Children t w = row w.node w.left t w.next_sibling w.first_attribute w.next_attribute
+with_first Attributes t w = row w.node w.left w.first_child w.next_sibling t w.next_attribute
 
-abbrev pub next_link : Siblings → Link
-next_link Children = NextSibling
-next_link Attributes = NextAttribute
+abbrev pub with_next : Siblings → ℕ → Row → Row
+with_next Children t w = row w.node w.left w.first_child t w.first_attribute w.next_attribute
+with_next Attributes t w = row w.node w.left w.first_child w.next_sibling w.first_attribute t
 
 abbrev pub next_among : Siblings → Row → ℕ
 next_among Children w = w.next_sibling

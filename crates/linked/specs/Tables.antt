@@ -1,13 +1,13 @@
 -- What an index of identifiers and its rows show of each node, and what the changes of a row, an entry more and an entry fewer do to it.
-use Rattle.std.specs.Prelude.{◌≡◌, ℕ, ◌<◌, ◌≤◌, cond, List, length, get_or, Some, None, Option, ◌==◌, slice_index_or}
+use Rattle.std.specs.Prelude.{◌≡◌, ℕ, ◌<◌, ◌≤◌, cond, List, length, get_or, Some, None, Option, ◌==◌, slice_index_or, vec_items}
 use Rattle.std.specs.Option.{option_map}
 use Rattle.ordered.specs.declared.entries.RowOf.{RowOf}
 use Rattle.ordered.specs.Table.{Ascending}
 use Rattle.ordered.specs.Entries.{by_identifier, LookedUp}
-use Rattle.linked.specs.declared.row.Link.TheVariants.{Left}
 use Rattle.linked.specs.declared.row.Row.{Row}
 use Rattle.linked.specs.declared.row.Siblings.{Siblings}
-use Rattle.linked.specs.Rows.{with_link, first_link, next_link, next_among}
+use Rattle.linked.specs.declared.table.Table.{Table}
+use Rattle.linked.specs.Rows.{with_left, with_first, with_next, next_among}
 
 abbrev pub Lookup : Type 0
 Lookup = ℕ → Option Row
@@ -24,10 +24,17 @@ pub record Shows (ix : List RowOf) (rows : List Row) (n : ℕ) (look : Lookup) :
   pub every : (t : ℕ) (w : Row) → look t ≡ Some w → (k : ℕ) × (k < n) × ((e : RowOf) → (get_or ix k e).id ≡ t)
   pub once : (j k : ℕ) (e : RowOf) → j < n → k < n → (get_or ix j e).id ≡ (get_or ix k e).id → j ≡ k
 
+abbrev pub shows : Table → Lookup → Type 0
+shows t look = Shows (vec_items t.index) (vec_items t.rows) t.used look
+
 -- What a search for the row of a node answers
-abbrev pub RowFound : List RowOf → List Row → ℕ → ℕ → Option ℕ → Type 0
-RowFound ix rows n id None = (look : Lookup) → Shows ix rows n look → look id ≡ None
-RowFound ix rows n id (Some r) = (r < length rows) × ((look : Lookup) → Shows ix rows n look → LookedUp ix n id (Some r))
+abbrev pub RowFound : Table → ℕ → Option ℕ → Type 0
+RowFound t id None = (look : Lookup) → shows t look → look id ≡ None
+RowFound t id (Some r) = (r < length (vec_items t.rows)) × ((look : Lookup) → shows t look → LookedUp (vec_items t.index) t.used id (Some r))
+
+-- the function that a closure computes, by what its calls return
+abbrev pub Computes : (Row → Row → Type 0) → (Row → Row) → Type 0
+Computes returns g = (w r : Row) → returns w r → r ≡ g w
 
 -- the row of one node changed
 abbrev pub changed : ℕ → (Row → Row) → Lookup → Lookup
@@ -41,13 +48,13 @@ without_row t look u = cond (u == t) None (look u)
 
 -- what leads to the place behind `before` among siblings below p, led to t
 abbrev pub led : Siblings → ℕ → ℕ → ℕ → Lookup → Lookup
-led among p before t look = cond (before == 0) (changed p (with_link (first_link among) t) look) (changed before (with_link (next_link among) t) look)
+led among p before t look = cond (before == 0) (changed p (with_first among t) look) (changed before (with_next among t) look)
 
 -- a row linked in behind `before`, and linked out
 abbrev pub linked_in : Siblings → ℕ → Row → Lookup → Lookup
 linked_in among before w look =
-    with_row w.node.id w (changed w.next_sibling (with_link Left w.node.id) (led among w.node.parent before w.node.id look))
+    with_row w.node.id w (changed w.next_sibling (with_left w.node.id) (led among w.node.parent before w.node.id look))
 
 abbrev pub linked_out : Siblings → ℕ → Row → Lookup → Lookup
 linked_out among before w look =
-    without_row w.node.id (changed w.next_sibling (with_link Left w.left) (led among w.node.parent before (next_among among w) look))
+    without_row w.node.id (changed w.next_sibling (with_left w.left) (led among w.node.parent before (next_among among w) look))

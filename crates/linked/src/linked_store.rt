@@ -1,9 +1,8 @@
-// The store's memory, all of it acquired when it is made.
+// The store: a table of rows, and the root.
 ghost use Rattle.document.specs.Tree.{Forest};
 ghost use Rattle.linked.specs.Stores.{Stores};
 
-use crate::row::Row;
-use ordered::RowOf;
+use crate::table::Table;
 
 pub mod making;
 pub mod reading;
@@ -11,10 +10,7 @@ pub mod writing;
 
 #[derive(Drop)]
 pub struct LinkedStore {
-    // In which row each node stands, by identifier; the entries behind the used ones hold the free rows.
-    index: Vec<RowOf>,
-    rows: Vec<Row>,
-    used: usize,
+    table: Table,
     root: u32,
-    ghost stands: { ∥ ((d : Forest) × Stores index.items rows.items used root d) ∥₁ },
+    ghost stands: { ∥ ((d : Forest) × Stores table.index.items table.rows.items table.used root d) ∥₁ },
 }

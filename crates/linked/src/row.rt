@@ -1,10 +1,10 @@
 // A node with the identifiers of its neighbours, 0 for none.
 ghost use Rattle.std.specs.Prelude.{◌≡◌};
-ghost use Rattle.linked.specs.Rows.{with_link, with_record, first_link, next_link, next_among, siblings_of, row_among};
+ghost use Rattle.linked.specs.Rows.{with_first, with_next, next_among, siblings_of, row_among};
 
 use records::{Kind, Node};
 
-#[derive(Clone, Copy)]
+#[derive(Clone, Copy, Default)]
 pub struct Row {
     pub node: Node,
     pub left: u32,
@@ -12,15 +12,6 @@ pub struct Row {
     pub next_sibling: u32,
     pub first_attribute: u32,
     pub next_attribute: u32,
-}
-
-#[derive(Clone, Copy)]
-pub enum Link {
-    Left,
-    FirstChild,
-    NextSibling,
-    FirstAttribute,
-    NextAttribute,
 }
 
 // Nodes of one parent that lead to one another.
@@ -40,26 +31,6 @@ impl Siblings {
             _ => Siblings::Children,
         }
     }
-
-    // The parent's link to the first.
-    pub fn first(self) -> Link
-        ensures { result ≡ first_link self }
-    {
-        match self {
-            Siblings::Children => Link::FirstChild,
-            Siblings::Attributes => Link::FirstAttribute,
-        }
-    }
-
-    // The link of one to the next.
-    pub fn next(self) -> Link
-        ensures { result ≡ next_link self }
-    {
-        match self {
-            Siblings::Children => Link::NextSibling,
-            Siblings::Attributes => Link::NextAttribute,
-        }
-    }
 }
 
 impl Row {
@@ -70,12 +41,9 @@ impl Row {
         let bare = Row {
             node,
             left,
-            first_child: 0,
-            next_sibling: 0,
-            first_attribute: 0,
-            next_attribute: 0,
+            ..Row::default()
         };
-        bare.with_link(among.next(), next)
+        bare.with_next(among, next)
     }
 
     // The one behind it among its siblings.
@@ -88,27 +56,35 @@ impl Row {
         }
     }
 
-    // The row with one link to another node.
-    pub fn with_link(self, link: Link, to: u32) -> Row
-        ensures { result ≡ with_link link to self }
+    // The row of a parent that leads to another first one of these siblings.
+    pub fn with_first(self, among: Siblings, first: u32) -> Row
+        ensures { result ≡ with_first among first self }
     {
-        let mut row = self;
-        match link {
-            Link::Left => row.left = to,
-            Link::FirstChild => row.first_child = to,
-            Link::NextSibling => row.next_sibling = to,
-            Link::FirstAttribute => row.first_attribute = to,
-            Link::NextAttribute => row.next_attribute = to,
+        match among {
+            Siblings::Children => Row {
+                first_child: first,
+                ..self
+            },
+            Siblings::Attributes => Row {
+                first_attribute: first,
+                ..self
+            },
         }
-        row
     }
 
-    // The row with another record.
-    pub fn with_record(self, node: Node) -> Row
-        ensures { result ≡ with_record node self }
+    // The row of one of these siblings that leads to another next one.
+    pub fn with_next(self, among: Siblings, next: u32) -> Row
+        ensures { result ≡ with_next among next self }
     {
-        let mut row = self;
-        row.node = node;
-        row
+        match among {
+            Siblings::Children => Row {
+                next_sibling: next,
+                ..self
+            },
+            Siblings::Attributes => Row {
+                next_attribute: next,
+                ..self
+            },
+        }
     }
 }

@@ -1,35 +1,21 @@
 // Questions: one look-up each.
 ghost use Rattle.std.specs.Prelude.{◌≡◌, vec_len};
-ghost use Rattle.document.specs.Tree.{size};
-ghost use Rattle.store.specs.Views.{view, asked, first_of};
+ghost use Rattle.store.specs.Views.{view, asked};
 ghost use Rattle.linked.specs.Rows.{row_of};
 ghost use Rattle.linked.specs.Document.{document};
 
 use super::LinkedStore;
 use crate::row::Row;
-use crate::table::look_up;
 use faults::StoreFault;
 use records::Node;
 use store::Reading;
 
 impl LinkedStore {
-    fn count(&self) -> usize
-        ensures { result ≡ size (document self.now) }
-    {
-        self.used
-    }
-
-    fn top(&self) -> u32
-        ensures { result ≡ first_of (document self.now) }
-    {
-        self.root
-    }
-
     // The row of a node.
     pub fn row(&self, id: u32) -> Result<Row, StoreFault>
         ensures { result ≡ asked row_of (view (document self.now) id) }
     {
-        match look_up(&self.index, &self.rows, self.used, id) {
+        match self.table.row(id) {
             Some(row) => Ok(row),
             None => Err(StoreFault::Absent),
         }
@@ -39,20 +25,20 @@ impl LinkedStore {
 impl Reading for LinkedStore {
     ghost forest = { document };
 
-    ghost limit = { λ s. vec_len s.index };
+    ghost limit = { λ s. vec_len s.table.index };
 
     fn kept(&self) {}
 
     fn room(&self) -> usize {
-        self.index.len()
+        self.table.room()
     }
 
     fn len(&self) -> usize {
-        self.count()
+        self.table.len()
     }
 
     fn root(&self) -> u32 {
-        self.top()
+        self.root
     }
 
     fn node(&self, id: u32) -> Result<Node, StoreFault> {

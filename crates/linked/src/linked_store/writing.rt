@@ -1,7 +1,7 @@
 // Writes: the tests that all stores share, then a constant number of rows and the shift in the index.
 ghost use Rattle.std.specs.Prelude.{◌≡◌, ℕ, if◌then◌else◌, Some, Ok, vec_len, nat_eq};
 ghost use Rattle.store.specs.Views.{view};
-ghost use Rattle.store.specs.Says.{put_says, put_leaves, take_says, take_leaves, rename_says, rename_leaves, set_value_says, set_value_leaves};
+ghost use Rattle.store.specs.Says.{put_says, put_leaves, take_says, take_leaves};
 ghost use Rattle.store.specs.Links.{next_child, attribute_before, attribute_from};
 ghost use Rattle.linked.specs.Document.{document};
 ghost use Rattle.linked.specs.Rows.{seen};
@@ -9,7 +9,6 @@ ghost use Rattle.linked.specs.Places.{neighbours as neighbours_of, stands_behind
 
 use super::LinkedStore;
 use crate::row::{Row, Siblings};
-use crate::table::{link_in, link_out, rewrite};
 use faults::StoreFault;
 use records::Node;
 use store::{Reading, Writing, test_put, test_rename, test_set_value, test_take};
@@ -67,22 +66,14 @@ impl LinkedStore {
     }
 
     fn put_in(&mut self, node: Node, left: u32)
-        requires { put_says (vec_len self.old.index) (document self.old) node left ≡ Ok tt }
-        ensures leaves { document self.new ≡ put_leaves (vec_len self.old.index) (document self.old) node left }
-        ensures room { vec_len self.new.index ≡ vec_len self.old.index }
+        requires { put_says (vec_len self.old.table.index) (document self.old) node left ≡ Ok tt }
+        ensures leaves { document self.new ≡ put_leaves (vec_len self.old.table.index) (document self.old) node left }
+        ensures room { vec_len self.new.table.index ≡ vec_len self.old.table.index }
     {
         let among = Siblings::of(node.kind);
         let (before, next) = self.neighbours(among, node, left);
         let row = Row::among(among, node, left, next);
-        link_in(
-            &mut self.index,
-            &mut self.rows,
-            self.used,
-            among,
-            before,
-            row,
-        );
-        self.used += 1;
+        self.table.link_in(among, before, row);
         self.root = root_after(node.parent, node.id, self.root);
     }
 
@@ -91,51 +82,21 @@ impl LinkedStore {
         requires says { take_says (document self.old) row.node.id ≡ Ok tt }
         requires there { view (document self.old) row.node.id ≡ Some (seen row) }
         ensures leaves { document self.new ≡ take_leaves (document self.old) row.node.id }
-        ensures room { vec_len self.new.index ≡ vec_len self.old.index }
+        ensures room { vec_len self.new.table.index ≡ vec_len self.old.table.index }
     {
         let among = Siblings::of(row.node.kind);
         let before = self.sibling_before(among, row);
-        link_out(
-            &mut self.index,
-            &mut self.rows,
-            self.used,
-            among,
-            before,
-            row,
-        );
-        self.used -= 1;
+        self.table.link_out(among, before, row);
         self.root = root_after(row.node.parent, 0, self.root);
     }
 
     fn take_out(&mut self, id: u32)
         requires { take_says (document self.old) id ≡ Ok tt }
         ensures leaves { document self.new ≡ take_leaves (document self.old) id }
-        ensures room { vec_len self.new.index ≡ vec_len self.old.index }
+        ensures room { vec_len self.new.table.index ≡ vec_len self.old.table.index }
     {
         if let Ok(row) = self.row(id) {
             self.take_row(row);
-        }
-    }
-
-    fn name(&mut self, id: u32, name: u16)
-        requires { rename_says (document self.old) id name ≡ Ok tt }
-        ensures leaves { document self.new ≡ rename_leaves (document self.old) id name }
-        ensures room { vec_len self.new.index ≡ vec_len self.old.index }
-    {
-        if let Ok(mut node) = self.node(id) {
-            node.name = name;
-            rewrite(&self.index, &mut self.rows, self.used, id, node);
-        }
-    }
-
-    fn value(&mut self, id: u32, value: u32)
-        requires { set_value_says (document self.old) id ≡ Ok tt }
-        ensures leaves { document self.new ≡ set_value_leaves (document self.old) id value }
-        ensures room { vec_len self.new.index ≡ vec_len self.old.index }
-    {
-        if let Ok(mut node) = self.node(id) {
-            node.value = value;
-            rewrite(&self.index, &mut self.rows, self.used, id, node);
         }
     }
 }
@@ -155,13 +116,25 @@ impl Writing for LinkedStore {
 
     fn rename(&mut self, id: u32, name: u16) -> Result<(), StoreFault> {
         test_rename(self, id, name)?;
-        self.name(id, name);
+        self.table.change(
+            id,
+            |row| Row {
+                node: Node { name, ..row.node },
+                ..row
+            },
+        );
         Ok(())
     }
 
     fn set_value(&mut self, id: u32, value: u32) -> Result<(), StoreFault> {
         test_set_value(self, id)?;
-        self.value(id, value);
+        self.table.change(
+            id,
+            |row| Row {
+                node: Node { value, ..row.node },
+                ..row
+            },
+        );
         Ok(())
     }
 }

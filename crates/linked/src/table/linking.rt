@@ -1,0 +1,45 @@
+// Rows linked in among their siblings, and linked out.
+ghost use Rattle.std.specs.Prelude.{◌≡◌, ◌+◌, ◌-◌, ◌<◌, Some, None, vec_len};
+ghost use Rattle.linked.specs.Tables.{Lookup, shows, led, linked_in, linked_out};
+
+use super::Table;
+use crate::row::{Row, Siblings};
+
+impl Table {
+    // Leads what led to the place behind `before` among the siblings below `parent` to another node.
+    fn lead(&mut self, among: Siblings, parent: u32, before: u32, to: u32)
+        ensures used { self.new.used ≡ self.old.used }
+        ensures room { vec_len self.new.index ≡ vec_len self.old.index }
+        ensures shows { (look : Lookup) → shows self.old look → shows self.new (led among parent before to look) }
+    {
+        if before == 0 {
+            self.change(parent, |row| row.with_first(among, to));
+        } else {
+            self.change(before, |row| row.with_next(among, to));
+        }
+    }
+
+    // Links a new row in behind `before` among its siblings, or first where that is 0.
+    pub fn link_in(&mut self, among: Siblings, before: u32, row: Row)
+        ensures room { vec_len self.new.index ≡ vec_len self.old.index }
+        ensures used { self.old.used < vec_len self.old.index → self.new.used ≡ self.old.used + 1 }
+        ensures shows { (look : Lookup) → shows self.old look → look row.node.id ≡ None → self.old.used < vec_len self.old.index → shows self.new (linked_in among before row look) }
+    {
+        let id = row.node.id;
+        self.lead(among, row.node.parent, before, id);
+        self.change(row.next_sibling, |next| Row { left: id, ..next });
+        self.enter(row);
+    }
+
+    // Links a row out that stands behind `before` among its siblings, or first where that is 0.
+    pub fn link_out(&mut self, among: Siblings, before: u32, row: Row)
+        ensures room { vec_len self.new.index ≡ vec_len self.old.index }
+        ensures shows { (look : Lookup) → shows self.old look → look row.node.id ≡ Some row → (self.new.used ≡ self.old.used - 1) × shows self.new (linked_out among before row look) }
+    {
+        let next = row.next_among(among);
+        let left = row.left;
+        self.lead(among, row.node.parent, before, next);
+        self.change(row.next_sibling, |next| Row { left, ..next });
+        self.leave(row.node.id);
+    }
+}

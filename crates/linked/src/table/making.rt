@@ -1,0 +1,30 @@
+// A new table: every row is free.
+ghost use Rattle.std.specs.Prelude.{◌≡◌, ℕ, ◌<◌, IfOk, None, vec_len, slice_index_or};
+ghost use Rattle.ordered.specs.declared.entries.RowOf.{RowOf as Entry};
+ghost use Rattle.linked.specs.Tables.{shows};
+
+use super::Table;
+use crate::row::Row;
+use ordered::RowOf;
+use std::alloc::{AllocError, Global};
+
+// An entry for each row.
+fn free_rows(heap: Global, room: usize) -> Result<Vec<RowOf>, AllocError>
+    ensures { IfOk result (λ v. (vec_len v ≡ room) × ((k : ℕ) (e : Entry) → k < room → (slice_index_or v.items k e).row ≡ k)) }
+{
+    (0..room).map(|row| RowOf { id: 0, row }).collect(heap)
+}
+
+impl Table {
+    pub fn with_room(heap: Global, room: usize) -> Result<Table, AllocError>
+        ensures { IfOk result (λ t. (t.used ≡ 0) × (vec_len t.index ≡ room) × shows t (λ k. None)) }
+    {
+        let index = free_rows(heap, room)?;
+        let rows = vec![in heap; Row::default(); room]?;
+        Ok(Table {
+            index,
+            rows,
+            used: 0,
+        })
+    }
+}
