@@ -1,10 +1,10 @@
 -- What a linked store's memory tells of the document that it holds.
-use Rattle.std.proofs.Common.{◌≡◌, ℕ, ◌≤◌, List, Some, None, Ok, Err, vec_items, vec_len, Option, sym, refl, subst}
+use Rattle.std.proofs.Common.{◌≡◌, ℕ, ◌≤◌, List, Some, None, Ok, Err, vec_items, vec_len, Option, sym, ap, subst}
 use mathlib.Core.Logic.{∥∥₁_elim}
 use native.Mathlib.Nat.{ℕ_set}
 use native.Mathlib.Bridge.{le_prop}
 use base.Stored.{Coded-set}
-use Rattle.std.specs.Option.{option_map}
+use Rattle.std.specs.Option.{option_map, ok_or}
 use Rattle.faults.specs.declared.StoreFault.TheVariants.{Absent}
 use Rattle.document.specs.Tree.{Forest, size}
 use Rattle.store.specs.Kept.{Kept}
@@ -48,10 +48,6 @@ pub looked_up : (s : LinkedStore) (t : ℕ) (o : Option Row) → ((look : Lookup
 looked_up s t o f = ∥∥₁_elim (holds s) (options_set (Coded-set the_row.coded) _ _) (λ h. f (rows_of (document s)) h.shows)
 
 -- a row that is there, and one that is not
-pub row_there : (w : Row) (o : Option View) → Some w ≡ option_map row_of o → Ok w ≡ asked row_of o
-row_there w None e = cc
-row_there w (Some v) e = cc
-
-pub no_row : (o : Option View) → None ≡ option_map row_of o → Err Absent ≡ asked row_of o
-no_row None e = refl
-no_row (Some v) e = cc
+pub asked_row : (r : Option Row) (o : Option View) → r ≡ option_map row_of o → ok_or r Absent ≡ asked row_of o
+asked_row r None e = ap (λ (x : Option Row). ok_or x Absent) e
+asked_row r (Some v) e = ap (λ (x : Option Row). ok_or x Absent) e

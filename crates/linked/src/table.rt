@@ -46,9 +46,7 @@ impl Table {
     pub fn row(&self, id: u32) -> Option<Row>
         ensures { (look : Lookup) → shows self.now look → result ≡ look id }
     {
-        match self.row_number(id) {
-            Some(at) => Some(self.rows[at]),
-            None => None,
-        }
+        let at = self.row_number(id)?;
+        Some(self.rows[at])
     }
 }

@@ -15,10 +15,7 @@ impl LinkedStore {
     pub fn row(&self, id: u32) -> Result<Row, StoreFault>
         ensures { result ≡ asked row_of (view (document self.now) id) }
     {
-        match self.table.row(id) {
-            Some(row) => Ok(row),
-            None => Err(StoreFault::Absent),
-        }
+        self.table.row(id).ok_or(StoreFault::Absent)
     }
 }
 
