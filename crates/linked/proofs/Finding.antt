@@ -6,8 +6,8 @@ use Rattle.ordered.specs.declared.entries.RowOf.{RowOf}
 use Rattle.ordered.specs.Entries.{LookedUp}
 use Rattle.linked.specs.declared.row.Row.{Row}
 use Rattle.linked.specs.declared.row.Siblings.{Siblings}
-use Rattle.linked.specs.Rows.{with_first, with_next}
-use Rattle.linked.specs.Tables.{Lookup, Shows, changed, led}
+use Rattle.linked.specs.Rows.{with_left, with_first, with_next}
+use Rattle.linked.specs.Tables.{Lookup, Shows, changed, led, led_around}
 
 abbrev pub no_entry : RowOf
 no_entry = record { id = 0; row = 0 }
@@ -122,3 +122,12 @@ some_led among p before t look u w e = go (eqb before 0)
     go : (b : Bool) → (x : Row) × (cond b (changed p (with_first among t) look) (changed before (with_next among t) look) u ≡ Some x)
     go true = some_stays p (with_first among t) look u w e
     go false = some_stays before (with_next among t) look u w e
+
+pub none_led_around : (among : Siblings) (before : ℕ) (w : Row) (next left : ℕ) (look : Lookup) (u : ℕ) → look u ≡ None → led_around among before w next left look u ≡ None
+none_led_around among before w next left look u e =
+    none_stays w.next_sibling (with_left left) (led among w.node.parent before next look) u (none_led among w.node.parent before next look u e)
+
+pub some_led_around : (among : Siblings) (before : ℕ) (w : Row) (next left : ℕ) (look : Lookup) (u : ℕ) (v : Row) → look u ≡ Some v → (x : Row) × (led_around among before w next left look u ≡ Some x)
+some_led_around among before w next left look u v e =
+    let x = some_led among w.node.parent before next look u v e in
+    some_stays w.next_sibling (with_left left) (led among w.node.parent before next look) u x.0 x.1

@@ -31,7 +31,7 @@ use Rattle.linked.specs.Tables.{Lookup, Shows, shows, changed, linked_in, linked
 use Rattle.linked.specs.Stores.{Stores, rows_of}
 use Rattle.linked.specs.Places.{neighbours, stands_behind}
 use Rattle.linked.specs.Document.{document}
-use Rattle.linked.proofs.Holding.{Held, holds}
+use Rattle.linked.proofs.Holding.{holds}
 use Rattle.linked.proofs.Putting.{put_shown}
 use Rattle.linked.proofs.Taking.{take_shown}
 
@@ -75,10 +75,10 @@ among_node Children n l m = refl
 among_node Attributes n l m = refl
 
 module _ (s : LinkedStore) (n : Node) (l : ℕ) (ok : put_says (vec_len s.table.index) (document s) n l ≡ Ok tt) where
-  pub has_room : Held s.table s.root (document s) → s.table.used < vec_len s.table.index
+  pub has_room : Stores s.table s.root (document s) → s.table.used < vec_len s.table.index
   has_room h =
       let a = puts.accepted (vec_len s.table.index) (document s) n l ok in
-      let w = h.shows.within in
+      let w = h.shown.within in
       let c = h.counted in
       let e = s.table.index.ok.0 in
       go (cases_lt s.table.used (vec_len s.table.index)) a w c e
@@ -88,7 +88,7 @@ module _ (s : LinkedStore) (n : Node) (l : ℕ) (ok : put_says (vec_len s.table.
       go (inl h) a w c e = h
       go (inr h) a w c e = absurd (a.room_left (omega arith))
 
-  same : Held s.table s.root (document s)
+  same : Stores s.table s.root (document s)
       → (among : Siblings) → among ≡ siblings_of n.kind → (pair : ℕ × ℕ) → pair ≡ neighbours (document s) among n l → (w : Row) → w ≡ row_among among n l pair.1
       → (u : ℕ) → linked_in among pair.0 w (rows_of (document s)) u ≡ rows_of (put_leaves (vec_len s.table.index) (document s) n l) u
   same h among ea pair ep w ew u =
@@ -101,7 +101,7 @@ module _ (s : LinkedStore) (n : Node) (l : ℕ) (ok : put_says (vec_len s.table.
       → among ≡ siblings_of n.kind → pair ≡ neighbours (document s) among n l → w ≡ row_among among n l pair.1 → root ≡ cond (eqb n.parent 0) n.id s.root
       → (s.table.used < vec_len s.table.index → t.used ≡ s.table.used + 1)
       → ((look : Lookup) → shows s.table look → look w.node.id ≡ None → s.table.used < vec_len s.table.index → shows t (linked_in among pair.0 w look))
-      → ∥ Held t root (put_leaves (vec_len s.table.index) (document s) n l) ∥₁
+      → ∥ Stores t root (put_leaves (vec_len s.table.index) (document s) n l) ∥₁
   put_stored t among pair w root ea ep ew er more E = ∥∥₁_map (holds s) (λ h.
       let a = puts.accepted (vec_len s.table.index) (document s) n l ok in
       let id : w.node.id ≡ n.id = ap (λ (x : Row). x.node.id) ew ∙ ap (λ (x : Node). x.id) (among_node among n l pair.1) in
@@ -114,8 +114,8 @@ module _ (s : LinkedStore) (n : Node) (l : ℕ) (ok : put_says (vec_len s.table.
         kept = subst Kept (sym leaves) (puts.put_kept (vec_len s.table.index) (document s) n l h.kept a);
         rooted = er ∙ ap (λ (r : ℕ). cond (eqb n.parent 0) n.id r) h.rooted ∙ sym (ap first_of leaves ∙ put_root (document s) n l);
         counted = omega (arith, ap size leaves);
-        shows = shown_as (vec_items t.index) (vec_items t.rows) t.used (linked_in among pair.0 w (rows_of (document s))) (rows_of (put_leaves (vec_len s.table.index) (document s) n l)) (same h among ea pair ep w ew)
-            (E (rows_of (document s)) h.shows none (has_room h));
+        shown = shown_as (vec_items t.index) (vec_items t.rows) t.used (linked_in among pair.0 w (rows_of (document s))) (rows_of (put_leaves (vec_len s.table.index) (document s) n l)) (same h among ea pair ep w ew)
+            (E (rows_of (document s)) h.shown none (has_room h));
       })
 
 -- ---- a node taken out
@@ -154,9 +154,9 @@ module _ (s : LinkedStore) (w : Row) (ok : take_says (document s) w.node.id ≡ 
   pub take_stored : (t : Table) (among : Siblings) (before root : ℕ)
       → among ≡ siblings_of w.node.kind → before ≡ stands_behind (document s) among w → root ≡ cond (eqb w.node.parent 0) 0 s.root
       → ((look : Lookup) → shows s.table look → look w.node.id ≡ Some w → (t.used ≡ s.table.used - 1) × shows t (linked_out among before w look))
-      → ∥ Held t root (take_leaves (document s) w.node.id) ∥₁
+      → ∥ Stores t root (take_leaves (document s) w.node.id) ∥₁
   take_stored t among before root ea eb er E = ∥∥₁_map (holds s) (λ h.
-      let after = E (rows_of (document s)) h.shows (seen_again w (view (document s) w.node.id) at) in
+      let after = E (rows_of (document s)) h.shown (seen_again w (view (document s) w.node.id) at) in
       let leaves = takes.leaves_accepted (document s) w.node.id ok in
       let c = h.counted in
       let m = after.0 in
@@ -165,10 +165,10 @@ module _ (s : LinkedStore) (w : Row) (ok : take_says (document s) w.node.id ≡ 
         kept = (takes.take_keeps (size (document s)) (document s) w.node.id h.kept (omega arith)).0;
         rooted = er ∙ ap (λ (r : ℕ). cond (eqb w.node.parent 0) 0 r) h.rooted ∙ sym (ap first_of leaves ∙ take_root (document s) w.node.id (seen w) h.kept at);
         counted = omega arith;
-        shows = shown_as (vec_items t.index) (vec_items t.rows) t.used (linked_out among before w (rows_of (document s))) (rows_of (take_leaves (document s) w.node.id)) (same h among ea before eb) after.1;
+        shown = shown_as (vec_items t.index) (vec_items t.rows) t.used (linked_out among before w (rows_of (document s))) (rows_of (take_leaves (document s) w.node.id)) (same h among ea before eb) after.1;
       })
     where
-      same : Held s.table s.root (document s)
+      same : Stores s.table s.root (document s)
           → (among : Siblings) → among ≡ siblings_of w.node.kind → (before : ℕ) → before ≡ stands_behind (document s) among w
           → (u : ℕ) → linked_out among before w (rows_of (document s)) u ≡ rows_of (take_leaves (document s) w.node.id) u
       same h among ea before eb u =
@@ -218,24 +218,24 @@ with_value m x = record { id = x.id; parent = x.parent; kind = x.kind; name = x.
 module _ (s : LinkedStore) (id : ℕ) (t : Table) (as_many : t.used ≡ s.table.used) where
   edit_stored : (f g : Node → Node) (d' : Forest) → ((u : ℕ) → view d' u ≡ option_map (reshown f) (view (document s) u)) → ((y : Node) → f y ≡ cond (eqb y.id id) (g y) y)
       → (Kept (document s) → Kept d' × (size d' ≡ size (document s))) → first_of d' ≡ first_of (document s)
-      → ((look : Lookup) → shows s.table look → shows t (changed id (with_record g) look)) → ∥ Held t s.root d' ∥₁
+      → ((look : Lookup) → shows s.table look → shows t (changed id (with_record g) look)) → ∥ Stores t s.root d' ∥₁
   edit_stored f g d' re is kept first E = ∥∥₁_map (holds s) (λ h.
       let k = kept h.kept in
       record {
         kept = k.0;
         rooted = h.rooted ∙ sym first;
         counted = as_many ∙ h.counted ∙ sym k.1;
-        shows = shown_as (vec_items t.index) (vec_items t.rows) t.used (changed id (with_record g) (rows_of (document s))) (rows_of d') (rewritten (document s) d' id f g re is) (E (rows_of (document s)) h.shows);
+        shown = shown_as (vec_items t.index) (vec_items t.rows) t.used (changed id (with_record g) (rows_of (document s))) (rows_of d') (rewritten (document s) d' id f g re is) (E (rows_of (document s)) h.shown);
       })
 
   pub rename_stored : (m : ℕ) → rename_says (document s) id m ≡ Ok tt → ((look : Lookup) → shows s.table look → shows t (changed id (with_record (with_name m)) look))
-      → ∥ Held t s.root (rename_leaves (document s) id m) ∥₁
+      → ∥ Stores t s.root (rename_leaves (document s) id m) ∥₁
   rename_stored m ok =
       edit_stored (renamed_row id m) (with_name m) (rename_leaves (document s) id m) (rename_reshows (document s) id m ok) (λ y. refl) (rename_keeps (document s) id m)
       (ap (λ (r : Answer). first_of (after r (edited id (named m) (document s)) (document s))) ok ∙ first_edited id (named m) (λ r. refl) (document s))
 
   pub value_stored : (m : ℕ) → set_value_says (document s) id ≡ Ok tt → ((look : Lookup) → shows s.table look → shows t (changed id (with_record (with_value m)) look))
-      → ∥ Held t s.root (set_value_leaves (document s) id m) ∥₁
+      → ∥ Stores t s.root (set_value_leaves (document s) id m) ∥₁
   value_stored m ok =
       edit_stored (revalued_row id m) (with_value m) (set_value_leaves (document s) id m) (set_value_reshows (document s) id m ok) (λ y. refl) (set_value_keeps (document s) id m)
       (ap (λ (r : Answer). first_of (after r (edited id (valued m) (document s)) (document s))) ok ∙ first_edited id (valued m) (λ r. refl) (document s))

@@ -50,11 +50,13 @@ without_row t look u = cond (u == t) None (look u)
 abbrev pub led : Siblings → ℕ → ℕ → ℕ → Lookup → Lookup
 led among p before t look = cond (before == 0) (changed p (with_first among t) look) (changed before (with_next among t) look)
 
+-- what leads to the place of a row behind `before`, led to `next`, and what leads back to it, led to `left`
+abbrev pub led_around : Siblings → ℕ → Row → ℕ → ℕ → Lookup → Lookup
+led_around among before w next left look = changed w.next_sibling (with_left left) (led among w.node.parent before next look)
+
 -- a row linked in behind `before`, and linked out
 abbrev pub linked_in : Siblings → ℕ → Row → Lookup → Lookup
-linked_in among before w look =
-    with_row w.node.id w (changed w.next_sibling (with_left w.node.id) (led among w.node.parent before w.node.id look))
+linked_in among before w look = with_row w.node.id w (led_around among before w w.node.id w.node.id look)
 
 abbrev pub linked_out : Siblings → ℕ → Row → Lookup → Lookup
-linked_out among before w look =
-    without_row w.node.id (changed w.next_sibling (with_left w.left) (led among w.node.parent before (next_among among w) look))
+linked_out among before w look = without_row w.node.id (led_around among before w (next_among among w) w.left look)

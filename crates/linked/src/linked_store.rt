@@ -12,5 +12,5 @@ pub mod writing;
 pub struct LinkedStore {
     table: Table,
     root: u32,
-    ghost stands: { ∥ ((d : Forest) × Stores table.index.items table.rows.items table.used root d) ∥₁ },
+    ghost stands: { ∥ ((d : Forest) × Stores table root d) ∥₁ },
 }

@@ -1,6 +1,6 @@
 // Rows linked in among their siblings, and linked out.
 ghost use Rattle.std.specs.Prelude.{◌≡◌, ◌+◌, ◌-◌, ◌<◌, Some, None, vec_len};
-ghost use Rattle.linked.specs.Tables.{Lookup, shows, led, linked_in, linked_out};
+ghost use Rattle.linked.specs.Tables.{Lookup, shows, led, led_around, linked_in, linked_out};
 
 use super::Table;
 use crate::row::{Row, Siblings};
@@ -19,15 +19,23 @@ impl Table {
         }
     }
 
+    // Leads what leads to the place of a row behind `before` to `next`, and what leads back to it to `left`.
+    fn lead_around(&mut self, among: Siblings, before: u32, row: Row, next: u32, left: u32)
+        ensures used { self.new.used ≡ self.old.used }
+        ensures room { vec_len self.new.index ≡ vec_len self.old.index }
+        ensures shows { (look : Lookup) → shows self.old look → shows self.new (led_around among before row next left look) }
+    {
+        self.lead(among, row.node.parent, before, next);
+        self.change(row.next_sibling, |behind| Row { left, ..behind });
+    }
+
     // Links a new row in behind `before` among its siblings, or first where that is 0.
     pub fn link_in(&mut self, among: Siblings, before: u32, row: Row)
         ensures room { vec_len self.new.index ≡ vec_len self.old.index }
         ensures used { self.old.used < vec_len self.old.index → self.new.used ≡ self.old.used + 1 }
         ensures shows { (look : Lookup) → shows self.old look → look row.node.id ≡ None → self.old.used < vec_len self.old.index → shows self.new (linked_in among before row look) }
     {
-        let id = row.node.id;
-        self.lead(among, row.node.parent, before, id);
-        self.change(row.next_sibling, |next| Row { left: id, ..next });
+        self.lead_around(among, before, row, row.node.id, row.node.id);
         self.enter(row);
     }
 
@@ -36,10 +44,7 @@ impl Table {
         ensures room { vec_len self.new.index ≡ vec_len self.old.index }
         ensures shows { (look : Lookup) → shows self.old look → look row.node.id ≡ Some row → (self.new.used ≡ self.old.used - 1) × shows self.new (linked_out among before row look) }
     {
-        let next = row.next_among(among);
-        let left = row.left;
-        self.lead(among, row.node.parent, before, next);
-        self.change(row.next_sibling, |next| Row { left, ..next });
+        self.lead_around(among, before, row, row.next_among(among), row.left);
         self.leave(row.node.id);
     }
 }

@@ -1,0 +1,6 @@
+use Rattle.std.proofs.Common.{rules}
+use Rattle.linked.specs.Rows.{with_left}
+use Rattle.linked.proofs.table.Table.lead_around.Goals as goal
+
+pub returns-clause-shows : goal.returns-clause-shows
+returns-clause-shows c look s = c.change.ensures.shows (with_left c.args.left) (λ w r e. search rules) _ (c.lead.ensures.shows look s)
