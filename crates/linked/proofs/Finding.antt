@@ -7,7 +7,7 @@ use Rattle.ordered.specs.Entries.{LookedUp}
 use Rattle.linked.specs.declared.row.Row.{Row}
 use Rattle.linked.specs.declared.row.Siblings.{Siblings}
 use Rattle.linked.specs.Rows.{with_left, with_first, with_next}
-use Rattle.linked.specs.Tables.{Lookup, Shows, changed, led, led_around}
+use Rattle.linked.specs.Tables.{Lookup, Shows, changed, led}
 
 abbrev pub no_entry : RowOf
 no_entry = record { id = 0; row = 0 }
@@ -95,39 +95,31 @@ module _ (ix : List RowOf) (rows : List Row) (n : ℕ) (look : Lookup) (s : Show
           go false e = rw e
 
 -- a change of rows adds no node and takes none away
-pub none_stays : (t : ℕ) (f : Row → Row) (look : Lookup) (u : ℕ) → look u ≡ None → changed t f look u ≡ None
+none_stays : (t : ℕ) (f : Row → Row) (look : Lookup) (u : ℕ) → look u ≡ None → changed t f look u ≡ None
 none_stays t f look u e = go (eqb u t)
   where
     go : (b : Bool) → cond b (option_map f (look u)) (look u) ≡ None
     go true = ap (option_map f) e
     go false = e
 
-pub some_stays : (t : ℕ) (f : Row → Row) (look : Lookup) (u : ℕ) (w : Row) → look u ≡ Some w → (x : Row) × (changed t f look u ≡ Some x)
+some_stays : (t : ℕ) (f : Row → Row) (look : Lookup) (u : ℕ) (w : Row) → look u ≡ Some w → (x : Row) × (changed t f look u ≡ Some x)
 some_stays t f look u w e = go (eqb u t)
   where
     go : (b : Bool) → (x : Row) × (cond b (option_map f (look u)) (look u) ≡ Some x)
     go true = (f w, ap (option_map f) e)
     go false = (w, e)
 
-pub none_led : (among : Siblings) (p before t : ℕ) (look : Lookup) (u : ℕ) → look u ≡ None → led among p before t look u ≡ None
-none_led among p before t look u e = go (eqb before 0)
-  where
-    go : (b : Bool) → cond b (changed p (with_first among t) look) (changed before (with_next among t) look) u ≡ None
-    go true = none_stays p (with_first among t) look u e
-    go false = none_stays before (with_next among t) look u e
+module _ (among : Siblings) (p before t next s : ℕ) (look : Lookup) (u : ℕ) where
+  pub none_around : look u ≡ None → changed next (with_left s) (led among p before t look) u ≡ None
+  none_around e = none_stays next (with_left s) (led among p before t look) u (go (eqb before 0))
+    where
+      go : (b : Bool) → cond b (changed p (with_first among t) look) (changed before (with_next among t) look) u ≡ None
+      go true = none_stays p (with_first among t) look u e
+      go false = none_stays before (with_next among t) look u e
 
-pub some_led : (among : Siblings) (p before t : ℕ) (look : Lookup) (u : ℕ) (w : Row) → look u ≡ Some w → (x : Row) × (led among p before t look u ≡ Some x)
-some_led among p before t look u w e = go (eqb before 0)
-  where
-    go : (b : Bool) → (x : Row) × (cond b (changed p (with_first among t) look) (changed before (with_next among t) look) u ≡ Some x)
-    go true = some_stays p (with_first among t) look u w e
-    go false = some_stays before (with_next among t) look u w e
-
-pub none_led_around : (among : Siblings) (before : ℕ) (w : Row) (next left : ℕ) (look : Lookup) (u : ℕ) → look u ≡ None → led_around among before w next left look u ≡ None
-none_led_around among before w next left look u e =
-    none_stays w.next_sibling (with_left left) (led among w.node.parent before next look) u (none_led among w.node.parent before next look u e)
-
-pub some_led_around : (among : Siblings) (before : ℕ) (w : Row) (next left : ℕ) (look : Lookup) (u : ℕ) (v : Row) → look u ≡ Some v → (x : Row) × (led_around among before w next left look u ≡ Some x)
-some_led_around among before w next left look u v e =
-    let x = some_led among w.node.parent before next look u v e in
-    some_stays w.next_sibling (with_left left) (led among w.node.parent before next look) u x.0 x.1
+  pub some_around : (w : Row) → look u ≡ Some w → (x : Row) × (changed next (with_left s) (led among p before t look) u ≡ Some x)
+  some_around w e = let y = go (eqb before 0) in some_stays next (with_left s) (led among p before t look) u y.0 y.1
+    where
+      go : (b : Bool) → (x : Row) × (cond b (changed p (with_first among t) look) (changed before (with_next among t) look) u ≡ Some x)
+      go true = some_stays p (with_first among t) look u w e
+      go false = some_stays before (with_next among t) look u w e

@@ -26,7 +26,7 @@ use Rattle.linked.specs.Rows.{row, row_of, with_left, row_among, siblings_of}
 use Rattle.linked.specs.Tables.{changed, with_row, led, linked_in}
 use Rattle.linked.specs.Stores.{rows_of}
 use Rattle.linked.specs.Places.{neighbours}
-use Rattle.linked.proofs.Finding.{none_stays, none_led}
+use Rattle.linked.proofs.Finding.{none_around}
 use Rattle.linked.proofs.Leading.{child_led, attribute_led}
 
 -- ---- the row of attributes, for an identifier that is new
@@ -98,7 +98,7 @@ module _ (room : ℕ) (d : Forest) (n : Node) (l : ℕ) (kept : Kept d) (ok : pu
         go : (o : Option View) → view d u ≡ o → changed (next_child d n l) (with_left n.id) (led Children n.parent l n.id (rows_of d)) u ≡ option_map row_of (option_map (linked_child d n l u) (view d u))
         go None h =
             let z : rows_of d u ≡ None = ap (option_map row_of) h in
-            none_stays (next_child d n l) (with_left n.id) (led Children n.parent l n.id (rows_of d)) u (none_led Children n.parent l n.id (rows_of d) u z)
+            none_around Children n.parent l n.id (next_child d n l) n.id (rows_of d) u z
             ∙ ap (λ (o : Option View). option_map row_of (option_map (linked_child d n l u) o)) (sym h)
         go (Some v) h =
             child_led (rows_of d) n.parent l n.id u n.id (next_child d n l) v (ap (option_map row_of) h) (nonzero d kept u v h)
@@ -119,7 +119,7 @@ module _ (room : ℕ) (d : Forest) (n : Node) (l : ℕ) (kept : Kept d) (ok : pu
             → changed 0 (with_left n.id) (led Attributes n.parent (attribute_before d n.parent n.id) n.id (rows_of d)) u ≡ option_map row_of (option_map (linked_attribute n (previous_attribute d n) u) (view d u))
         go None h =
             let z : rows_of d u ≡ None = ap (option_map row_of) h in
-            none_stays 0 (with_left n.id) (led Attributes n.parent (attribute_before d n.parent n.id) n.id (rows_of d)) u (none_led Attributes n.parent (attribute_before d n.parent n.id) n.id (rows_of d) u z)
+            none_around Attributes n.parent (attribute_before d n.parent n.id) n.id 0 n.id (rows_of d) u z
             ∙ ap (λ (o : Option View). option_map row_of (option_map (linked_attribute n (previous_attribute d n) u) o)) (sym h)
         go (Some v) h =
             attribute_led (rows_of d) n.parent (attribute_before d n.parent n.id) n.id u n.id v (ap (option_map row_of) h) (nonzero d kept u v h)
@@ -148,7 +148,7 @@ module _ (room : ℕ) (d : Forest) (n : Node) (l : ℕ) (kept : Kept d) (ok : pu
     root_put : (u : ℕ) → linked_in Children l (row n l 0 (next_child d n l) 0 0) (rows_of d) u ≡ rows_of (put_leaves room d n l) u
     root_put =
         by_identifier Children l (row n l 0 (next_child d n l) 0 0) refl (same ∙ sym (seen_root n.id true (eq-eqb n.id n.id refl)))
-        (λ u ne. none_stays (next_child d n l) (with_left n.id) (led Children n.parent l n.id (rows_of d)) u (none_led Children n.parent l n.id (rows_of d) u (none u)) ∙ sym (seen_root u false (ne_eqb n.id u (λ q. ne (sym q)))))
+        (λ u ne. none_around Children n.parent l n.id (next_child d n l) n.id (rows_of d) u (none u) ∙ sym (seen_root u false (ne_eqb n.id u (λ q. ne (sym q)))))
       where
         same : Some (row n l 0 (next_child d n l) 0 0) ≡ Some (row n 0 0 0 0 0)
         same = rw (nothing_behind, first)

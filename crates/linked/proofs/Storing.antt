@@ -1,15 +1,15 @@
 -- What the memory stands for after a write.
-use Rattle.std.proofs.Common.{◌≡◌, ℕ, ◌+◌, ◌-◌, ◌<◌, ◌≤◌, Bool, true, false, cond, eqb, ◌⊎◌, List, [], length, Some, None, Ok, vec_items, vec_len, Option, sym, refl, ap, ◌∙◌, subst, subst₂, inl, inr, arith, length-append, length-drop, length-take}
+use Rattle.std.proofs.Common.{◌≡◌, ℕ, ◌+◌, ◌-◌, ◌<◌, ◌≤◌, Bool, true, false, cond, eqb, ◌⊎◌, List, [], length, Some, None, Ok, vec_items, vec_len, Option, sym, refl, ap, ◌∙◌, subst, inl, inr, arith, length-append, length-drop, length-take}
 use mathlib.Core.Logic.{∥∥₁_map}
 use Rattle.std.specs.Option.{option_map}
-use Rattle.std.proofs.lemmas.Bool.{eq-eqb, ne_eqb, eqb-false, cond-true, cond-false, cases_lt, cases_eq}
+use Rattle.std.proofs.lemmas.Bool.{eq-eqb, ne_eqb, eqb-false, cond-true, cond-false, cases_lt}
 use Rattle.records.specs.declared.nodes.Node.{Node}
 use Rattle.document.specs.Tree.{Label, Forest, nil, node, size}
 use Rattle.document.specs.Listing.{label, listing}
 use Rattle.document.specs.Table.{is_attribute}
 use Rattle.store.specs.Kept.{Kept, AtMostOne}
 use Rattle.store.specs.Listed.{removed_at, position, renamed_row, revalued_row}
-use Rattle.store.specs.Views.{View, view, view_in, view_attribute, node_view, or_else, first_of, asked, record_says}
+use Rattle.store.specs.Views.{View, view, view_in, view_attribute, node_view, or_else, first_of, asked}
 use Rattle.store.specs.Writes.{act, unchanged, with_attribute, with_first, with_behind, put_in, without, lacking, edited, edit_labels, edit_tree, named, valued}
 use Rattle.store.specs.Says.{Answer, after, put_says, put_leaves, take_says, take_leaves, rename_says, rename_leaves, set_value_says, set_value_leaves}
 use Rattle.store.specs.Links.{reshown}

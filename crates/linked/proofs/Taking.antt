@@ -16,17 +16,17 @@ use Rattle.store.proofs.Standing.{NodeStands, AttributeStands, stands}
 use Rattle.linked.specs.declared.row.Siblings.{Siblings}
 use Rattle.linked.specs.declared.row.Siblings.TheVariants.{Children, Attributes}
 use Rattle.linked.specs.Rows.{row_of, with_left, next_among, siblings_of}
-use Rattle.linked.specs.Tables.{Lookup, changed, led, linked_out}
+use Rattle.linked.specs.Tables.{Lookup, changed, led, led_around, linked_out}
 use Rattle.linked.specs.Stores.{rows_of}
 use Rattle.linked.specs.Places.{stands_behind}
-use Rattle.linked.proofs.Finding.{none_stays, none_led}
+use Rattle.linked.proofs.Finding.{none_around}
 use Rattle.linked.proofs.Leading.{child_led, attribute_led}
 use Rattle.linked.proofs.Putting.{nonzero}
 
 module _ (d : Forest) (t : ℕ) (w : View) (kept : Kept d) (at : view d t ≡ Some w) (ok : take_says d t ≡ Ok tt) where
   -- the links that the removal of w leads elsewhere
   abbrev relink : Siblings → ℕ → Lookup
-  relink among before = changed w.next_sibling (with_left w.left) (led among w.row.parent before (next_among among (row_of w)) (rows_of d))
+  relink among before = led_around among before (row_of w) (next_among among (row_of w)) w.left (rows_of d)
 
   others : (among : Siblings) (before u : ℕ) → (u ≡ t → ⊥)
       → ((v : View) → view d u ≡ Some v → relink among before u ≡ Some (row_of (relinked_past d t w u v))) → relink among before u ≡ rows_of (take_leaves d t) u
@@ -35,8 +35,7 @@ module _ (d : Forest) (t : ℕ) (w : View) (kept : Kept d) (at : view d t ≡ So
       go : (o : Option View) → view d u ≡ o → relink among before u ≡ option_map row_of (option_map (relinked_past d t w u) (view d u))
       go None h =
           let z : rows_of d u ≡ None = ap (option_map row_of) h in
-          none_stays w.next_sibling (with_left w.left) (led among w.row.parent before (next_among among (row_of w)) (rows_of d)) u
-          (none_led among w.row.parent before (next_among among (row_of w)) (rows_of d) u z)
+          none_around among w.row.parent before (next_among among (row_of w)) w.next_sibling w.left (rows_of d) u z
           ∙ ap (λ (o : Option View). option_map row_of (option_map (relinked_past d t w u) o)) (sym h)
       go (Some v) h = f v h ∙ ap (λ (o : Option View). option_map row_of (option_map (relinked_past d t w u) o)) (sym h)
 

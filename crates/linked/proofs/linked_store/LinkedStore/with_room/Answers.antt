@@ -1,4 +1,4 @@
-use Rattle.std.proofs.Common.{◌≡◌, ℕ, refl, arith}
+use Rattle.std.proofs.Common.{◌≡◌, refl, arith}
 use Rattle.document.specs.Tree.{nil}
 use Rattle.linked.specs.declared.table.Table.{Table}
 use Rattle.linked.specs.Stores.{Stores}

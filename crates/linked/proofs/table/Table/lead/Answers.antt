@@ -1,7 +1,7 @@
 use Rattle.std.proofs.Common.{rules, sym, subst}
 use Rattle.std.proofs.lemmas.Bool.{cond-true, cond-false, eq-eqb, ne_eqb}
 use Rattle.linked.specs.Rows.{with_first, with_next}
-use Rattle.linked.specs.Tables.{Lookup, shows}
+use Rattle.linked.specs.Tables.{shows}
 use Rattle.linked.proofs.table.Table.lead.Goals as goal
 
 pub returns-then-before-eq0-clause-shows : goal.returns-then-before-eq0-clause-shows
