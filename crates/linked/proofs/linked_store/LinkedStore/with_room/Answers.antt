@@ -11,8 +11,5 @@ use Rattle.linked.proofs.linked_store.LinkedStore.with_room.Goals as goal
 empty : (t : Table) → t.used ≡ 0 → shows t (λ k. None) → Stores t 0 nil
 empty t none s = record { kept = record { root = tt; shaped = tt; distinct = λ i. omega arith }; rooted = refl; counted = none; shown = s }
 
-pub invariant_of-result : goal.invariant_of-result
-invariant_of-result c = let t = c.in_ok-table.ensures in record { stands = ∣ (nil, empty c.in_ok-table.table t.0 t.2) ∣₁ }
-
 pub returns : goal.returns
 returns c = let t = c.in_ok-table.ensures in (stands_for _ _ _ nil ∣ empty c.in_ok-table.table t.0 t.2 ∣₁, t.1)
