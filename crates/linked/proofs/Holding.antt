@@ -34,16 +34,16 @@ pub is_kept : (s : LinkedStore) → Kept (document s)
 is_kept s = ∥∥₁_elim (holds s) (kept_prop (document s)) (λ h. h.kept)
 
 pub is_counted : (s : LinkedStore) → s.table.used ≡ size (document s)
-is_counted s = ∥∥₁_elim (holds s) (ℕ_set _ _) (λ h. h.counted)
+is_counted s = ∥∥₁_elim (holds s) (ℕ_set _ _) (λ h. h.shown.0)
 
 pub is_rooted : (s : LinkedStore) → s.root ≡ first_of (document s)
 is_rooted s = ∥∥₁_elim (holds s) (ℕ_set _ _) (λ h. h.rooted)
 
 pub fits : (s : LinkedStore) → s.table.used ≤ vec_len s.table.index
-fits s = subst (λ (n : ℕ). s.table.used ≤ n) (sym s.table.index.ok.0) (∥∥₁_elim (holds s) le_prop (λ h. h.shown.within))
+fits s = subst (λ (n : ℕ). s.table.used ≤ n) (sym s.table.index.ok.0) (∥∥₁_elim (holds s) le_prop (λ h. h.shown.1.within))
 
-pub looked_up : (s : LinkedStore) (t : ℕ) (o : Option Row) → ((look : Lookup) → shows s.table look → o ≡ look t) → o ≡ option_map row_of (view (document s) t)
-looked_up s t o f = ∥∥₁_elim (holds s) (options_set (Coded-set the_row.coded) _ _) (λ h. f (rows_of (document s)) h.shown)
+pub looked_up : (s : LinkedStore) (t : ℕ) (o : Option Row) → ((n : ℕ) (look : Lookup) → shows s.table n look → o ≡ look t) → o ≡ option_map row_of (view (document s) t)
+looked_up s t o f = ∥∥₁_elim (holds s) (options_set (Coded-set the_row.coded) _ _) (λ h. f (size (document s)) (rows_of (document s)) h.shown)
 
 -- a row that is there, and one that is not
 pub asked_row : (r : Option Row) (o : Option View) → r ≡ option_map row_of o → ok_or r Absent ≡ asked row_of o

@@ -75,18 +75,18 @@ among_node Children n l m = refl
 among_node Attributes n l m = refl
 
 module _ (s : LinkedStore) (n : Node) (l : ℕ) (ok : put_says (vec_len s.table.index) (document s) n l ≡ Ok tt) where
-  pub has_room : Stores s.table s.root (document s) → s.table.used < vec_len s.table.index
+  has_room : Stores s.table s.root (document s) → size (document s) < vec_len s.table.index
   has_room h =
       let a = puts.accepted (vec_len s.table.index) (document s) n l ok in
-      let w = h.shown.within in
-      let c = h.counted in
+      let w = h.shown.1.within in
+      let c = h.shown.0 in
       let e = s.table.index.ok.0 in
-      go (cases_lt s.table.used (vec_len s.table.index)) a w c e
+      go (cases_lt (size (document s)) (vec_len s.table.index)) a (omega arith)
     where
-      go : (s.table.used < vec_len s.table.index) ⊎ (vec_len s.table.index ≤ s.table.used) → puts.Accepted (vec_len s.table.index) (document s) n l → s.table.used ≤ length (vec_items s.table.index)
-          → s.table.used ≡ size (document s) → vec_len s.table.index ≡ length (vec_items s.table.index) → s.table.used < vec_len s.table.index
-      go (inl h) a w c e = h
-      go (inr h) a w c e = absurd (a.room_left (omega arith))
+      go : (size (document s) < vec_len s.table.index) ⊎ (vec_len s.table.index ≤ size (document s)) → puts.Accepted (vec_len s.table.index) (document s) n l → size (document s) ≤ vec_len s.table.index
+          → size (document s) < vec_len s.table.index
+      go (inl h) a w = h
+      go (inr h) a w = absurd (a.room_left (omega arith))
 
   same : Stores s.table s.root (document s)
       → (among : Siblings) → among ≡ siblings_of n.kind → (pair : ℕ × ℕ) → pair ≡ neighbours (document s) among n l → (w : Row) → w ≡ row_among among n l pair.1
@@ -99,23 +99,22 @@ module _ (s : LinkedStore) (n : Node) (l : ℕ) (ok : put_says (vec_len s.table.
 
   pub put_stored : (t : Table) (among : Siblings) (pair : ℕ × ℕ) (w : Row) (root : ℕ)
       → among ≡ siblings_of n.kind → pair ≡ neighbours (document s) among n l → w ≡ row_among among n l pair.1 → root ≡ cond (eqb n.parent 0) n.id s.root
-      → (s.table.used < vec_len s.table.index → t.used ≡ s.table.used + 1)
-      → ((look : Lookup) → shows s.table look → look w.node.id ≡ None → s.table.used < vec_len s.table.index → shows t (linked_in among pair.0 w look))
+      → ((n : ℕ) (look : Lookup) → shows s.table n look → look w.node.id ≡ None → n < vec_len s.table.index → shows t (n + 1) (linked_in among pair.0 w look))
       → ∥ Stores t root (put_leaves (vec_len s.table.index) (document s) n l) ∥₁
-  put_stored t among pair w root ea ep ew er more E = ∥∥₁_map (holds s) (λ h.
+  put_stored t among pair w root ea ep ew er E = ∥∥₁_map (holds s) (λ h.
       let a = puts.accepted (vec_len s.table.index) (document s) n l ok in
       let id : w.node.id ≡ n.id = ap (λ (x : Row). x.node.id) ew ∙ ap (λ (x : Node). x.id) (among_node among n l pair.1) in
       let none : rows_of (document s) w.node.id ≡ None = ap (rows_of (document s)) id ∙ ap (option_map row_of) (absent n.id 0 0 (document s) a.new) in
       let leaves = puts.leaves_accepted (vec_len s.table.index) (document s) n l ok in
-      let c = h.counted in
-      let m = more (has_room h) in
+      let after = E (size (document s)) (rows_of (document s)) h.shown none (has_room h) in
       let grown = puts.put_size (vec_len s.table.index) (document s) n l h.kept a in
       record {
         kept = subst Kept (sym leaves) (puts.put_kept (vec_len s.table.index) (document s) n l h.kept a);
         rooted = er ∙ ap (λ (r : ℕ). cond (eqb n.parent 0) n.id r) h.rooted ∙ sym (ap first_of leaves ∙ put_root (document s) n l);
-        counted = omega (arith, ap size leaves);
-        shown = shown_as (vec_items t.index) (vec_items t.rows) t.used (linked_in among pair.0 w (rows_of (document s))) (rows_of (put_leaves (vec_len s.table.index) (document s) n l)) (same h among ea pair ep w ew)
-            (E (rows_of (document s)) h.shown none (has_room h));
+        shown = (
+          after.0 ∙ sym grown ∙ ap size (sym leaves),
+          shown_as (vec_items t.index) (vec_items t.rows) t.used (linked_in among pair.0 w (rows_of (document s))) (rows_of (put_leaves (vec_len s.table.index) (document s) n l)) (same h among ea pair ep w ew) after.1,
+        );
       })
 
 -- ---- a node taken out
@@ -153,19 +152,19 @@ seen_again w o e = ap (option_map row_of) e
 module _ (s : LinkedStore) (w : Row) (ok : take_says (document s) w.node.id ≡ Ok tt) (at : view (document s) w.node.id ≡ Some (seen w)) where
   pub take_stored : (t : Table) (among : Siblings) (before root : ℕ)
       → among ≡ siblings_of w.node.kind → before ≡ stands_behind (document s) among w → root ≡ cond (eqb w.node.parent 0) 0 s.root
-      → ((look : Lookup) → shows s.table look → look w.node.id ≡ Some w → (t.used ≡ s.table.used - 1) × shows t (linked_out among before w look))
+      → ((n : ℕ) (look : Lookup) → shows s.table n look → look w.node.id ≡ Some w → shows t (n - 1) (linked_out among before w look))
       → ∥ Stores t root (take_leaves (document s) w.node.id) ∥₁
   take_stored t among before root ea eb er E = ∥∥₁_map (holds s) (λ h.
-      let after = E (rows_of (document s)) h.shown (seen_again w (view (document s) w.node.id) at) in
+      let after = E (size (document s)) (rows_of (document s)) h.shown (seen_again w (view (document s) w.node.id) at) in
       let leaves = takes.leaves_accepted (document s) w.node.id ok in
-      let c = h.counted in
-      let m = after.0 in
       let fewer = take_size (document s) w.node.id h.kept ok in
       record {
         kept = (takes.take_keeps (size (document s)) (document s) w.node.id h.kept (omega arith)).0;
         rooted = er ∙ ap (λ (r : ℕ). cond (eqb w.node.parent 0) 0 r) h.rooted ∙ sym (ap first_of leaves ∙ take_root (document s) w.node.id (seen w) h.kept at);
-        counted = omega arith;
-        shown = shown_as (vec_items t.index) (vec_items t.rows) t.used (linked_out among before w (rows_of (document s))) (rows_of (take_leaves (document s) w.node.id)) (same h among ea before eb) after.1;
+        shown = (
+          omega (arith, after.0, fewer),
+          shown_as (vec_items t.index) (vec_items t.rows) t.used (linked_out among before w (rows_of (document s))) (rows_of (take_leaves (document s) w.node.id)) (same h among ea before eb) after.1,
+        );
       })
     where
       same : Stores s.table s.root (document s)
@@ -215,26 +214,29 @@ with_name m x = record { id = x.id; parent = x.parent; kind = x.kind; name = m; 
 abbrev pub with_value : ℕ → Node → Node
 with_value m x = record { id = x.id; parent = x.parent; kind = x.kind; name = x.name; value = m }
 
-module _ (s : LinkedStore) (id : ℕ) (t : Table) (as_many : t.used ≡ s.table.used) where
+module _ (s : LinkedStore) (id : ℕ) (t : Table) where
   edit_stored : (f g : Node → Node) (d' : Forest) → ((u : ℕ) → view d' u ≡ option_map (reshown f) (view (document s) u)) → ((y : Node) → f y ≡ cond (eqb y.id id) (g y) y)
       → (Kept (document s) → Kept d' × (size d' ≡ size (document s))) → first_of d' ≡ first_of (document s)
-      → ((look : Lookup) → shows s.table look → shows t (changed id (with_record g) look)) → ∥ Stores t s.root d' ∥₁
+      → ((n : ℕ) (look : Lookup) → shows s.table n look → shows t n (changed id (with_record g) look)) → ∥ Stores t s.root d' ∥₁
   edit_stored f g d' re is kept first E = ∥∥₁_map (holds s) (λ h.
       let k = kept h.kept in
+      let after = E (size (document s)) (rows_of (document s)) h.shown in
       record {
         kept = k.0;
         rooted = h.rooted ∙ sym first;
-        counted = as_many ∙ h.counted ∙ sym k.1;
-        shown = shown_as (vec_items t.index) (vec_items t.rows) t.used (changed id (with_record g) (rows_of (document s))) (rows_of d') (rewritten (document s) d' id f g re is) (E (rows_of (document s)) h.shown);
+        shown = (
+          after.0 ∙ sym k.1,
+          shown_as (vec_items t.index) (vec_items t.rows) t.used (changed id (with_record g) (rows_of (document s))) (rows_of d') (rewritten (document s) d' id f g re is) after.1,
+        );
       })
 
-  pub rename_stored : (m : ℕ) → rename_says (document s) id m ≡ Ok tt → ((look : Lookup) → shows s.table look → shows t (changed id (with_record (with_name m)) look))
+  pub rename_stored : (m : ℕ) → rename_says (document s) id m ≡ Ok tt → ((n : ℕ) (look : Lookup) → shows s.table n look → shows t n (changed id (with_record (with_name m)) look))
       → ∥ Stores t s.root (rename_leaves (document s) id m) ∥₁
   rename_stored m ok =
       edit_stored (renamed_row id m) (with_name m) (rename_leaves (document s) id m) (rename_reshows (document s) id m ok) (λ y. refl) (rename_keeps (document s) id m)
       (ap (λ (r : Answer). first_of (after r (edited id (named m) (document s)) (document s))) ok ∙ first_edited id (named m) (λ r. refl) (document s))
 
-  pub value_stored : (m : ℕ) → set_value_says (document s) id ≡ Ok tt → ((look : Lookup) → shows s.table look → shows t (changed id (with_record (with_value m)) look))
+  pub value_stored : (m : ℕ) → set_value_says (document s) id ≡ Ok tt → ((n : ℕ) (look : Lookup) → shows s.table n look → shows t n (changed id (with_record (with_value m)) look))
       → ∥ Stores t s.root (set_value_leaves (document s) id m) ∥₁
   value_stored m ok =
       edit_stored (revalued_row id m) (with_value m) (set_value_leaves (document s) id m) (set_value_reshows (document s) id m ok) (λ y. refl) (set_value_keeps (document s) id m)

@@ -24,13 +24,14 @@ pub record Shows (ix : List RowOf) (rows : List Row) (n : ℕ) (look : Lookup) :
   pub every : (t : ℕ) (w : Row) → look t ≡ Some w → (k : ℕ) × (k < n) × ((e : RowOf) → (get_or ix k e).id ≡ t)
   pub once : (j k : ℕ) (e : RowOf) → j < n → k < n → (get_or ix j e).id ≡ (get_or ix k e).id → j ≡ k
 
-abbrev pub shows : Table → Lookup → Type 0
-shows t look = Shows (vec_items t.index) (vec_items t.rows) t.used look
+-- a table shows n rows, and which one for each node
+abbrev pub shows : Table → ℕ → Lookup → Type 0
+shows t n look = (t.used ≡ n) × Shows (vec_items t.index) (vec_items t.rows) t.used look
 
 -- What a search for the row of a node answers
 abbrev pub RowFound : Table → ℕ → Option ℕ → Type 0
-RowFound t id None = (look : Lookup) → shows t look → look id ≡ None
-RowFound t id (Some r) = (r < length (vec_items t.rows)) × ((look : Lookup) → shows t look → LookedUp (vec_items t.index) t.used id (Some r))
+RowFound t id None = (n : ℕ) (look : Lookup) → shows t n look → look id ≡ None
+RowFound t id (Some r) = (r < length (vec_items t.rows)) × ((n : ℕ) (look : Lookup) → shows t n look → LookedUp (vec_items t.index) t.used id (Some r))
 
 -- the function that a closure computes, by what its calls return
 abbrev pub Computes : (Row → Row → Type 0) → (Row → Row) → Type 0

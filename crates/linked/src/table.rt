@@ -1,5 +1,5 @@
 // Rows under an index of identifiers. The entries of the index behind the used ones hold the free rows.
-ghost use Rattle.std.specs.Prelude.{◌≡◌, vec_len};
+ghost use Rattle.std.specs.Prelude.{◌≡◌, ℕ, vec_len};
 ghost use Rattle.linked.specs.Tables.{Lookup, shows, RowFound};
 
 use crate::row::Row;
@@ -44,7 +44,7 @@ impl Table {
 
     // The row of a node.
     pub fn row(&self, id: u32) -> Option<Row>
-        ensures { (look : Lookup) → shows self.now look → result ≡ look id }
+        ensures { (n : ℕ) (look : Lookup) → shows self.now n look → result ≡ look id }
     {
         let at = self.row_number(id)?;
         Some(self.rows[at])

@@ -1,5 +1,5 @@
 // One row changed, one more and one fewer.
-ghost use Rattle.std.specs.Prelude.{◌≡◌, ◌+◌, ◌-◌, ◌<◌, Some, None, vec_len};
+ghost use Rattle.std.specs.Prelude.{◌≡◌, ℕ, ◌+◌, ◌-◌, ◌<◌, Some, None, vec_len};
 ghost use Rattle.linked.specs.declared.row.Row.{Row as RowType};
 ghost use Rattle.linked.specs.Tables.{Lookup, Computes, shows, changed, with_row, without_row};
 
@@ -11,9 +11,8 @@ impl Table {
     // Changes the row of a node by `f`; where there is no such node nothing changes.
     pub fn change<F: Fn(Row) -> Row>(&mut self, id: u32, f: F)
         requires { F.IsAlwaysCallable f }
-        ensures used { self.new.used ≡ self.old.used }
         ensures room { vec_len self.new.index ≡ vec_len self.old.index }
-        ensures shows { (g : RowType → RowType) → Computes (F.post f) g → (look : Lookup) → shows self.old look → shows self.new (changed id g look) }
+        ensures shows { (g : RowType → RowType) → Computes (F.post f) g → (n : ℕ) (look : Lookup) → shows self.old n look → shows self.new n (changed id g look) }
     {
         if let Some(at) = self.row_number(id) {
             self.rows[at] = f(self.rows[at]);
@@ -23,8 +22,7 @@ impl Table {
     // Puts a row in, under the identifier of its node, where there is room.
     pub fn enter(&mut self, row: Row)
         ensures room { vec_len self.new.index ≡ vec_len self.old.index }
-        ensures used { self.old.used < vec_len self.old.index → self.new.used ≡ self.old.used + 1 }
-        ensures shows { (look : Lookup) → shows self.old look → look row.node.id ≡ None → self.old.used < vec_len self.old.index → shows self.new (with_row row.node.id row look) }
+        ensures shows { (n : ℕ) (look : Lookup) → shows self.old n look → look row.node.id ≡ None → n < vec_len self.old.index → shows self.new (n + 1) (with_row row.node.id row look) }
     {
         if self.used >= self.index.len() {
             return;
@@ -41,7 +39,7 @@ impl Table {
     // Takes the row of a node out; it is free afterwards.
     pub fn leave(&mut self, id: u32)
         ensures room { vec_len self.new.index ≡ vec_len self.old.index }
-        ensures shows { (look : Lookup) (w : RowType) → shows self.old look → look id ≡ Some w → (self.new.used ≡ self.old.used - 1) × shows self.new (without_row id look) }
+        ensures shows { (n : ℕ) (look : Lookup) (w : RowType) → shows self.old n look → look id ≡ Some w → shows self.new (n - 1) (without_row id look) }
     {
         if let Some(at) = place_of(&self.index, self.used, id) {
             if let Some(entry) = remove(&mut self.index, self.used, at) {

@@ -1,5 +1,5 @@
 // Rows linked in among their siblings, and linked out.
-ghost use Rattle.std.specs.Prelude.{◌≡◌, ◌+◌, ◌-◌, ◌<◌, Some, None, vec_len};
+ghost use Rattle.std.specs.Prelude.{◌≡◌, ℕ, ◌+◌, ◌-◌, ◌<◌, Some, None, vec_len};
 ghost use Rattle.linked.specs.Tables.{Lookup, shows, led, led_around, linked_in, linked_out};
 
 use super::Table;
@@ -8,9 +8,8 @@ use crate::row::{Row, Siblings};
 impl Table {
     // Leads what led to the place behind `before` among the siblings below `parent` to another node.
     fn lead(&mut self, among: Siblings, parent: u32, before: u32, to: u32)
-        ensures used { self.new.used ≡ self.old.used }
         ensures room { vec_len self.new.index ≡ vec_len self.old.index }
-        ensures shows { (look : Lookup) → shows self.old look → shows self.new (led among parent before to look) }
+        ensures shows { (n : ℕ) (look : Lookup) → shows self.old n look → shows self.new n (led among parent before to look) }
     {
         if before == 0 {
             self.change(parent, |row| row.with_first(among, to));
@@ -21,9 +20,8 @@ impl Table {
 
     // Leads what leads to the place of a row behind `before` to `next`, and what leads back to it to `left`.
     fn lead_around(&mut self, among: Siblings, before: u32, row: Row, next: u32, left: u32)
-        ensures used { self.new.used ≡ self.old.used }
         ensures room { vec_len self.new.index ≡ vec_len self.old.index }
-        ensures shows { (look : Lookup) → shows self.old look → shows self.new (led_around among before row next left look) }
+        ensures shows { (n : ℕ) (look : Lookup) → shows self.old n look → shows self.new n (led_around among before row next left look) }
     {
         self.lead(among, row.node.parent, before, next);
         self.change(row.next_sibling, |behind| Row { left, ..behind });
@@ -32,8 +30,7 @@ impl Table {
     // Links a new row in behind `before` among its siblings, or first where that is 0.
     pub fn link_in(&mut self, among: Siblings, before: u32, row: Row)
         ensures room { vec_len self.new.index ≡ vec_len self.old.index }
-        ensures used { self.old.used < vec_len self.old.index → self.new.used ≡ self.old.used + 1 }
-        ensures shows { (look : Lookup) → shows self.old look → look row.node.id ≡ None → self.old.used < vec_len self.old.index → shows self.new (linked_in among before row look) }
+        ensures shows { (n : ℕ) (look : Lookup) → shows self.old n look → look row.node.id ≡ None → n < vec_len self.old.index → shows self.new (n + 1) (linked_in among before row look) }
     {
         self.lead_around(among, before, row, row.node.id, row.node.id);
         self.enter(row);
@@ -42,7 +39,7 @@ impl Table {
     // Links a row out that stands behind `before` among its siblings, or first where that is 0.
     pub fn link_out(&mut self, among: Siblings, before: u32, row: Row)
         ensures room { vec_len self.new.index ≡ vec_len self.old.index }
-        ensures shows { (look : Lookup) → shows self.old look → look row.node.id ≡ Some row → (self.new.used ≡ self.old.used - 1) × shows self.new (linked_out among before row look) }
+        ensures shows { (n : ℕ) (look : Lookup) → shows self.old n look → look row.node.id ≡ Some row → shows self.new (n - 1) (linked_out among before row look) }
     {
         self.lead_around(among, before, row, row.next_among(among), row.left);
         self.leave(row.node.id);

@@ -17,7 +17,7 @@ fn free_rows(heap: Global, room: usize) -> Result<Vec<RowOf>, AllocError>
 
 impl Table {
     pub fn with_room(heap: Global, room: usize) -> Result<Table, AllocError>
-        ensures { IfOk result (λ t. (t.used ≡ 0) × (vec_len t.index ≡ room) × shows t (λ k. None)) }
+        ensures { IfOk result (λ t. (vec_len t.index ≡ room) × shows t 0 (λ k. None)) }
     {
         let index = free_rows(heap, room)?;
         let rows = vec![in heap; Row::default(); room]?;

@@ -9,7 +9,7 @@ use Rattle.linked.proofs.linked_store.LinkedStore.put_in.Goals as goal
 stored : (c : goal.After-root_after-self) → ∥ Stores c.link_in.new.self c.root_after-self.result (put_leaves (vec_len c.args.self.now.table.index) (document c.args.self.now) c.args.node c.args.left) ∥₁
 stored c =
     put_stored c.args.self.now c.args.node c.args.left c.requires c.link_in.new.self c.of-among.result c.neighbours-before.result c.among-row.result c.root_after-self.result
-    c.of-among.ensures c.neighbours-before.ensures c.among-row.ensures c.root_after-self.ensures c.link_in.ensures.used c.link_in.ensures.shows
+    c.of-among.ensures c.neighbours-before.ensures c.among-row.ensures c.root_after-self.ensures c.link_in.ensures.shows
 
 pub invariant_of-self : goal.invariant_of-self
 invariant_of-self c = record { stands = stands_for_one _ _ _ (stored c) }

@@ -20,13 +20,13 @@ enters xs ys rows n w x look (Some at) s new room e i o =
     entered xs ys rows n at w x.row look s new room i.1 (λ d. ap (λ (y : RowOf). y.row) (get_or_default xs n d x room ∙ sym e)) (o s.ascending).1
 
 pub returns-clause-shows : goal.returns-clause-shows
-returns-clause-shows c look s new room =
+returns-clause-shows c n look s new room =
     let me = c.args.self.now in
     let x = c.index.result.now in
     let Z = c.insert.new.table in
     let entry : RowOf = record { id = c.args.row.node.id; row = x.row } in
-    let room' : me.used < length (vec_items me.index) = omega (arith, me.index.ok.0) in
-    let inside : x.row < length (vec_items me.rows) = subst (λ (y : RowOf). y.row < length (vec_items me.rows)) (sym c.index.ensures) (s.inside me.used x room') in
+    let room' : me.used < length (vec_items me.index) = omega (arith, me.index.ok.0, s.0) in
+    let inside : x.row < length (vec_items me.rows) = subst (λ (y : RowOf). y.row < length (vec_items me.rows)) (sym c.index.ensures) (s.1.inside me.used x room') in
     let self_is : c.if-free-len.self ≡ record { index = me.index; rows = with_item me.rows x.row c.args.row; used = me.used }
     = elim c.if-free-len.branch [ then-free-len w ↦ w.self-is | else-free-len w ↦ absurd (omega (arith, w.if-free-len.false, c.len-2.ensures, me.rows.ok.0)) ] in
     let used : c.if-free-len.self.used ≡ me.used = ap (λ (t : Table). t.used) self_is in
@@ -35,4 +35,4 @@ returns-clause-shows c look s new room =
     let index : vec_items (with_items c.if-free-len.self.index Z) ≡ Z = with_items_is c.if-free-len.self.index Z (c.insert.auto.table ∙ c.deref_mut.ensures.len) in
     let i = subst₂ (λ (xs : List RowOf) (n : ℕ). Inserted xs n entry c.insert.result Z) table used c.insert.ensures.moves in
     let o = subst₂ (λ (xs : List RowOf) (n : ℕ). InOrder by_identifier xs n entry c.insert.result Z) table used c.insert.ensures.order in
-    rw (index, rows, used) (enters (vec_items me.index) Z (vec_items me.rows) me.used c.args.row x look c.insert.result s new room' c.index.ensures i o)
+    (ap (λ (k : ℕ). k + 1) (used ∙ s.0), rw (index, rows, used) (enters (vec_items me.index) Z (vec_items me.rows) me.used c.args.row x look c.insert.result s.1 new room' c.index.ensures i o))

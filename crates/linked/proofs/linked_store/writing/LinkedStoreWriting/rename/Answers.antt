@@ -9,7 +9,7 @@ use Rattle.linked.proofs.linked_store.writing.LinkedStoreWriting.rename.Goals as
 
 stored : (c : goal.After-change) → ∥ Stores c.change.new.self c.args.self.now.root (rename_leaves (document c.args.self.now) c.args.id c.args.name) ∥₁
 stored c =
-    rename_stored c.args.self.now c.args.id c.change.new.self c.change.ensures.used c.args.name (sym c.in_ok-test_rename.ensures)
+    rename_stored c.args.self.now c.args.id c.change.new.self c.args.name (sym c.in_ok-test_rename.ensures)
     (c.change.ensures.shows (with_record (with_name c.args.name)) (λ w r e. search rules))
 
 pub invariant_of-self : goal.invariant_of-self

@@ -9,7 +9,7 @@ use Rattle.linked.proofs.linked_store.writing.LinkedStoreWriting.set_value.Goals
 
 stored : (c : goal.After-change) → ∥ Stores c.change.new.self c.args.self.now.root (set_value_leaves (document c.args.self.now) c.args.id c.args.value) ∥₁
 stored c =
-    value_stored c.args.self.now c.args.id c.change.new.self c.change.ensures.used c.args.value (sym c.in_ok-test_set_value.ensures)
+    value_stored c.args.self.now c.args.id c.change.new.self c.args.value (sym c.in_ok-test_set_value.ensures)
     (c.change.ensures.shows (with_record (with_value c.args.value)) (λ w r e. search rules))
 
 pub invariant_of-self : goal.invariant_of-self
