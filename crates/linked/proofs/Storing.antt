@@ -1,5 +1,5 @@
 -- What the memory stands for after a write.
-use Rattle.std.proofs.Common.{◌≡◌, ℕ, ◌+◌, ◌-◌, ◌<◌, ◌≤◌, Bool, true, false, cond, eqb, ◌⊎◌, List, [], length, Some, None, Ok, vec_items, vec_len, Option, sym, refl, ap, ◌∙◌, subst, inl, inr, arith, length-append, length-drop, length-take}
+use Rattle.std.proofs.Common.{◌≡◌, ℕ, ◌+◌, ◌-◌, ◌<◌, ◌≤◌, Bool, true, false, cond, eqb, ◌⊎◌, List, [], length, Some, None, Ok, vec_len, Option, sym, refl, ap, ◌∙◌, subst, inl, inr, arith, length-append, length-drop, length-take}
 use mathlib.Core.Logic.{∥∥₁_map}
 use Rattle.std.specs.Option.{option_map}
 use Rattle.std.proofs.lemmas.Bool.{eq-eqb, ne_eqb, eqb-false, cond-true, cond-false, cases_lt}
@@ -20,14 +20,13 @@ use Rattle.store.proofs.Puts as puts
 use Rattle.store.proofs.Questions.{seen_id}
 use Rattle.store.proofs.Takes as takes
 use Rattle.store.proofs.Standing.{NodeStands, AttributeStands, stands}
-use Rattle.ordered.specs.declared.entries.RowOf.{RowOf}
 use Rattle.linked.specs.declared.table.Table.{Table}
 use Rattle.linked.specs.declared.row.Row.{Row}
 use Rattle.linked.specs.declared.row.Siblings.{Siblings}
 use Rattle.linked.specs.declared.row.Siblings.TheVariants.{Children, Attributes}
 use Rattle.linked.specs.declared.linked_store.LinkedStore.{LinkedStore}
 use Rattle.linked.specs.Rows.{seen, row, row_of, with_record, row_among, siblings_of}
-use Rattle.linked.specs.Tables.{Lookup, Shows, shows, changed, linked_in, linked_out}
+use Rattle.linked.specs.Tables.{Lookup, shows, changed, linked_in, linked_out}
 use Rattle.linked.specs.Stores.{Stores, rows_of}
 use Rattle.linked.specs.Places.{neighbours, stands_behind}
 use Rattle.linked.specs.Document.{document}
@@ -35,18 +34,21 @@ use Rattle.linked.proofs.Holding.{holds}
 use Rattle.linked.proofs.Putting.{put_shown}
 use Rattle.linked.proofs.Taking.{take_shown}
 
--- what is shown, by another account of it
-shown_as : (ix : List RowOf) (rows : List Row) (n : ℕ) (f g : Lookup) → ((t : ℕ) → f t ≡ g t) → Shows ix rows n f → Shows ix rows n g
-shown_as ix rows n f g e s = record {
-  within = s.within;
-  equal = s.equal;
-  ascending = s.ascending;
-  inside = s.inside;
-  apart = s.apart;
-  shown = λ k x w h. sym (e _) ∙ s.shown k x w h;
-  every = λ t w h. s.every t w (e t ∙ h);
-  once = s.once;
-}
+-- what a table shows, by another account of it
+shown_as : (t : Table) (m n : ℕ) (f g : Lookup) → m ≡ n → ((u : ℕ) → f u ≡ g u) → shows t m f → shows t n g
+shown_as t m n f g q e s = (
+  s.0 ∙ q,
+  record {
+    within = s.1.within;
+    equal = s.1.equal;
+    ascending = s.1.ascending;
+    inside = s.1.inside;
+    apart = s.1.apart;
+    shown = λ k x w h. sym (e _) ∙ s.1.shown k x w h;
+    every = λ u w h. s.1.every u w (e u ∙ h);
+    once = s.1.once;
+  },
+)
 
 -- ---- the root
 first_stays : (t : ℕ) (in_row : List Label → List Label) (at : Label → List Label → Forest → Forest → Forest) → ((r : Label) (as' : List Label) (k f : Forest) → first_of (at r as' k f) ≡ r.id)
@@ -99,7 +101,7 @@ module _ (s : LinkedStore) (n : Node) (l : ℕ) (ok : put_says (vec_len s.table.
 
   pub put_stored : (t : Table) (among : Siblings) (pair : ℕ × ℕ) (w : Row) (root : ℕ)
       → among ≡ siblings_of n.kind → pair ≡ neighbours (document s) among n l → w ≡ row_among among n l pair.1 → root ≡ cond (eqb n.parent 0) n.id s.root
-      → ((n : ℕ) (look : Lookup) → shows s.table n look → look w.node.id ≡ None → n < vec_len s.table.index → shows t (n + 1) (linked_in among pair.0 w look))
+      → ((m : ℕ) (look : Lookup) → shows s.table m look → look w.node.id ≡ None → m < vec_len s.table.index → shows t (m + 1) (linked_in among pair.0 w look))
       → ∥ Stores t root (put_leaves (vec_len s.table.index) (document s) n l) ∥₁
   put_stored t among pair w root ea ep ew er E = ∥∥₁_map (holds s) (λ h.
       let a = puts.accepted (vec_len s.table.index) (document s) n l ok in
@@ -111,10 +113,7 @@ module _ (s : LinkedStore) (n : Node) (l : ℕ) (ok : put_says (vec_len s.table.
       record {
         kept = subst Kept (sym leaves) (puts.put_kept (vec_len s.table.index) (document s) n l h.kept a);
         rooted = er ∙ ap (λ (r : ℕ). cond (eqb n.parent 0) n.id r) h.rooted ∙ sym (ap first_of leaves ∙ put_root (document s) n l);
-        shown = (
-          after.0 ∙ sym grown ∙ ap size (sym leaves),
-          shown_as (vec_items t.index) (vec_items t.rows) t.used (linked_in among pair.0 w (rows_of (document s))) (rows_of (put_leaves (vec_len s.table.index) (document s) n l)) (same h among ea pair ep w ew) after.1,
-        );
+        shown = shown_as t _ _ (linked_in among pair.0 w (rows_of (document s))) (rows_of (put_leaves (vec_len s.table.index) (document s) n l)) (sym grown ∙ ap size (sym leaves)) (same h among ea pair ep w ew) after;
       })
 
 -- ---- a node taken out
@@ -161,10 +160,7 @@ module _ (s : LinkedStore) (w : Row) (ok : take_says (document s) w.node.id ≡ 
       record {
         kept = (takes.take_keeps (size (document s)) (document s) w.node.id h.kept (omega arith)).0;
         rooted = er ∙ ap (λ (r : ℕ). cond (eqb w.node.parent 0) 0 r) h.rooted ∙ sym (ap first_of leaves ∙ take_root (document s) w.node.id (seen w) h.kept at);
-        shown = (
-          omega (arith, after.0, fewer),
-          shown_as (vec_items t.index) (vec_items t.rows) t.used (linked_out among before w (rows_of (document s))) (rows_of (take_leaves (document s) w.node.id)) (same h among ea before eb) after.1,
-        );
+        shown = shown_as t (size (document s) - 1) _ (linked_out among before w (rows_of (document s))) (rows_of (take_leaves (document s) w.node.id)) (omega (arith, fewer)) (same h among ea before eb) after;
       })
     where
       same : Stores s.table s.root (document s)
@@ -220,14 +216,10 @@ module _ (s : LinkedStore) (id : ℕ) (t : Table) where
       → ((n : ℕ) (look : Lookup) → shows s.table n look → shows t n (changed id (with_record g) look)) → ∥ Stores t s.root d' ∥₁
   edit_stored f g d' re is kept first E = ∥∥₁_map (holds s) (λ h.
       let k = kept h.kept in
-      let after = E (size (document s)) (rows_of (document s)) h.shown in
       record {
         kept = k.0;
         rooted = h.rooted ∙ sym first;
-        shown = (
-          after.0 ∙ sym k.1,
-          shown_as (vec_items t.index) (vec_items t.rows) t.used (changed id (with_record g) (rows_of (document s))) (rows_of d') (rewritten (document s) d' id f g re is) after.1,
-        );
+        shown = shown_as t _ _ (changed id (with_record g) (rows_of (document s))) (rows_of d') (sym k.1) (rewritten (document s) d' id f g re is) (E (size (document s)) (rows_of (document s)) h.shown);
       })
 
   pub rename_stored : (m : ℕ) → rename_says (document s) id m ≡ Ok tt → ((n : ℕ) (look : Lookup) → shows s.table n look → shows t n (changed id (with_record (with_name m)) look))
