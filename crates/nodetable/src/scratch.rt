@@ -18,7 +18,7 @@ impl Slot {
     };
 
     // What two slots may not have both, where slots hold keys.
-    pub fn key(&self) -> (u32, u16)
+    pub(crate) fn key(&self) -> (u32, u16)
         ensures { result ≡ (self.now.id, self.now.name) }
     {
         (self.id, self.name)

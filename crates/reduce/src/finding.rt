@@ -28,7 +28,7 @@ impl Lookup<'_> {
     }
 
     // The first operation of a key.
-    pub fn first(&self, key: Key) -> Option<Operation>
+    pub(crate) fn first(&self, key: Key) -> Option<Operation>
         ensures { result ≡ first_operation key.target key.code self.now.operations.now }
     {
         match self.entries.get(self.place_of(key)) {
@@ -38,21 +38,21 @@ impl Lookup<'_> {
     }
 
     // Whether there is an operation of a key.
-    pub fn has(&self, target: u32, code: Code) -> bool
+    pub(crate) fn has(&self, target: u32, code: Code) -> bool
         ensures { result ≡ has_change code target (changes self.now) }
     {
         self.first(Key { target, code }).is_some()
     }
 
     // Whether a node goes.
-    pub fn goes(&self, target: u32) -> bool
+    pub(crate) fn goes(&self, target: u32) -> bool
         ensures { result ≡ goes_of (changes self.now) target }
     {
         self.has(target, Code::ReplaceNode) || self.has(target, Code::Delete)
     }
 
     // Adds the nodes of all operations of a key.
-    pub fn copy_group(&self, key: Key, tables: &mut Tables)
+    pub(crate) fn copy_group(&self, key: Key, tables: &mut Tables)
         requires { tables.old.used.nodes + length (rows 0 (group (changes self.now) key.target key.code)) < 2 ^ 32 }
         ensures { Copied tables.old tables.new (rows 0 (group (changes self.now) key.target key.code)) }
     {
@@ -67,7 +67,7 @@ impl Lookup<'_> {
     }
 
     // Adds the nodes of several groups, one behind the other.
-    pub fn copy_groups(&self, keys: &[Key], tables: &mut Tables)
+    pub(crate) fn copy_groups(&self, keys: &[Key], tables: &mut Tables)
         requires { tables.old.used.nodes + length (rows 0 (gathered (changes self.now) keys.now)) < 2 ^ 32 }
         ensures { Copied tables.old tables.new (rows 0 (gathered (changes self.now) keys.now)) }
     {

@@ -22,7 +22,7 @@ pub struct Entry {
 }
 
 impl Entry {
-    pub fn is_for(&self, key: Key) -> bool
+    pub(crate) fn is_for(&self, key: Key) -> bool
         ensures { result ≡ entry_for key.target key.code self.now }
     {
         self.target == key.target && self.code == u8::from(key.code)
