@@ -2,7 +2,7 @@
 use Rattle.std.proofs.Common.{◌≡◌, ℕ, suc, ◌+◌, ◌-◌, ◌<◌, ◌≤◌, Bool, true, false, cond, ◌&&◌, eqb, ltb, List, [], ◌∷◌, ◌++◌, length, get_or, take, drop, set, Some, None, Option, sym, refl, ap, ◌∙◌, arith, length-append, length-take}
 use Rattle.std.proofs.lemmas.List.{take_more, take_more_set, take-take, take_all, at_drop_more}
 use Rattle.std.proofs.Math.Seq.{take-append_seam}
-use Rattle.std.proofs.lemmas.Bool.{eq-eqb, ne_eqb, lt-ltb, le-ltb}
+use Rattle.std.proofs.lemmas.Bool.{lt-ltb, le-ltb}
 use Rattle.records.specs.declared.nodes.Kind.{Kind}
 use Rattle.records.specs.declared.nodes.Kind.TheVariants.{Element, Attribute, Text}
 use Rattle.records.specs.declared.nodes.Node.{Node}
@@ -28,11 +28,11 @@ open_ids_last n ss d p h =
     rw g (open_ids_push (take (n - 1) ss) (get_or ss (n - 1) d))
 
 -- the innermost element closes where it is not the parent, and stays open with those around it where it is
-pub closed_past : (p : ℕ) (ss around : List Slot) (s : Slot) → ss ≡ around ++ s ∷ [] → (s.id ≡ p → ⊥) → closed_to p (open_ids around) ≡ closed_to p (open_ids ss)
-closed_past p ss around s e ne = rw (e, open_ids_push around s, ne_eqb s.id p ne)
+pub closed_past : (p : ℕ) (ss around : List Slot) (s : Slot) → ss ≡ around ++ s ∷ [] → eqb s.id p ≡ false → closed_to p (open_ids around) ≡ closed_to p (open_ids ss)
+closed_past p ss around s e ne = rw (e, open_ids_push around s, ne)
 
-pub closed_here : (p : ℕ) (ss around : List Slot) (s : Slot) → ss ≡ around ++ s ∷ [] → s.id ≡ p → closed_to p (open_ids ss) ≡ open_ids ss
-closed_here p ss around s e h = rw (e, open_ids_push around s, eq-eqb s.id p h)
+pub closed_here : (p : ℕ) (ss around : List Slot) (s : Slot) → ss ≡ around ++ s ∷ [] → eqb s.id p ≡ true → closed_to p (open_ids ss) ≡ open_ids ss
+closed_here p ss around s e h = rw (e, open_ids_push around s, h)
 
 -- those around the innermost are the front of what was a front
 pub around_front : (ss all around : List Slot) (s : Slot) → ss ≡ take (length ss) all → ss ≡ around ++ s ∷ [] → length around + 1 ≡ length ss

@@ -14,7 +14,7 @@ pub fn still_open(parent: u32, elements: &[Slot]) -> usize
 {
     let mut open = elements;
     while let Some((innermost, around)) = open.split_last() {
-        if innermost.id == parent {
+        if innermost.is_for(parent) {
             break;
         }
         open = around;
@@ -42,7 +42,7 @@ impl<'a> OpenElements<'a> {
         ensures { result ≡ innermost id (open_in self.now) }
     {
         match self.slots[..self.count].last() {
-            Some(slot) => slot.id == id,
+            Some(slot) => slot.is_for(id),
             None => false,
         }
     }

@@ -1,5 +1,5 @@
 // Scratch memory, lent for the length of a call and handed back all zeros.
-ghost use Rattle.std.specs.Prelude.{◌≡◌};
+ghost use Rattle.std.specs.Prelude.{◌≡◌, ◌==◌};
 ghost use Rattle.nodetable.specs.Scratch.{cleared};
 
 // An identifier, a name and a place; the order is by these in turn.
@@ -16,6 +16,12 @@ impl Slot {
         name: 0,
         place: 0,
     };
+
+    pub fn is_for(&self, id: u32) -> bool
+        ensures { result ≡ (self.now.id == id) }
+    {
+        self.id == id
+    }
 
     // What two slots may not have both, where slots hold keys.
     pub(crate) fn key(&self) -> (u32, u16)

@@ -1,13 +1,10 @@
-use Rattle.std.proofs.Common.{length, sym, refl, subst, arith}
+use Rattle.std.proofs.Common.{length, sym, refl, subst}
 use lib.ListN.{length-map}
 use Rattle.codec.specs.Fields.{record_of_node}
 use Rattle.writer.specs.ReadBack.{ReadsDocument}
 use Rattle.reader.specs.Layout.{document_records}
-use Rattle.writer.proofs.Written.{room_fits, front_written, reads_document}
+use Rattle.writer.proofs.Written.{front_written, reads_document}
 use Rattle.writer.proofs.documents.write_nodes.Goals as goal
-
-pub put_nodes-requires : goal.put_nodes-requires
-put_nodes-requires c = omega (arith, room_fits (length c.args.bytes.now) (length c.args.nodes.now) c.requires.fits)
 
 pub returns : goal.returns
 returns c =

@@ -7,12 +7,6 @@ use Rattle.reader.proofs.Rows.{file_more, spelt-++}
 use Rattle.writer.proofs.Chunks.{blank, turn, take_chunk, length_list_records, count_within, counts_on, records_here, nodes_here}
 use Rattle.writer.proofs.writing.put_list.Goals as goal
 
-pub split_at-requires : goal.split_at-requires
-split_at-requires c =
-    let os = c.args.operations.now in
-    let k = c.loop-operation.operation-index in
-    count_within os c.loop-operation.rest.now k (get_or os k blank) c.loop-operation-test.true (turn os k c.loop-operation-test.true) c.loop-operation.invariant.3
-
 pub loop-operation-preserved : goal.loop-operation-preserved
 loop-operation-preserved c =
     let os = c.args.operations.now in

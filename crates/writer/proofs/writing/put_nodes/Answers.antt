@@ -1,14 +1,11 @@
 use Rattle.std.proofs.Common.{◌≡◌, ◌+◌, ◌*◌, [], ◌∷◌, ◌++◌, length, take, sym, ap, ◌∙◌, subst, arith}
 use lib.ListN.{length-map}
-use Rattle.std.proofs.lemmas.List.{map_more, take_all, length-take-le}
+use Rattle.std.proofs.lemmas.List.{map_more, length-take-le}
 use Rattle.codec.specs.Fields.{record_of_node}
 use Rattle.reader.specs.Bytes.{file_of, patched, Spelt}
 use Rattle.reader.specs.Layout.{document_records}
-use Rattle.reader.proofs.Rows.{patch_none, file_more, file_of_one, spelt-++}
+use Rattle.reader.proofs.Rows.{file_more, file_of_one, spelt-++}
 use Rattle.writer.proofs.writing.put_nodes.Goals as goal
-
-pub loop-k-init : goal.loop-k-init
-loop-k-init c = (sym (patch_none c.args.bytes.now (16 * c.args.place)), tt)
 
 pub loop-k-preserved : goal.loop-k-preserved
 loop-k-preserved c =
@@ -23,7 +20,3 @@ loop-k-preserved c =
       text ∙ ap (λ l. patched c.args.bytes.now (16 * c.args.place) (file_of l)) (sym m),
       subst Spelt (sym m) (spelt-++ done one c.loop-k.invariant.1 (c.put.ensures.spelt, tt)),
     )
-
-pub returns : goal.returns
-returns c = let e = take_all c.loop-k.k c.args.nodes.now (omega arith) in
-    record { text = c.loop-k.invariant.0 ∙ ap (λ l. patched c.args.bytes.now (16 * c.args.place) (file_of (document_records l))) e; spelt = subst (λ l. Spelt (document_records l)) e c.loop-k.invariant.1 }
