@@ -1,5 +1,5 @@
 -- What an index of identifiers and its rows show of each node, and what the changes of a row, an entry more and an entry fewer do to it.
-use Rattle.std.specs.Prelude.{◌≡◌, ℕ, ◌<◌, ◌≤◌, cond, List, length, get_or, Some, None, Option, ◌==◌, slice_index_or, vec_items}
+use Rattle.std.specs.Prelude.{◌≡◌, ℕ, ◌<◌, ◌≤◌, cond, List, length, get_or, Some, None, Option, ◌==◌, slice_index_or, vec_items, vec_len}
 use Rattle.std.specs.Option.{option_map}
 use Rattle.ordered.specs.declared.entries.RowOf.{RowOf}
 use Rattle.ordered.specs.Table.{Ascending}
@@ -23,6 +23,10 @@ pub record Shows (ix : List RowOf) (rows : List Row) (n : ℕ) (look : Lookup) :
   pub shown : (k : ℕ) (e : RowOf) (w : Row) → k < n → look (get_or ix k e).id ≡ Some (slice_index_or rows (get_or ix k e).row w)
   pub every : (t : ℕ) (w : Row) → look t ≡ Some w → (k : ℕ) × (k < n) × ((e : RowOf) → (get_or ix k e).id ≡ t)
   pub once : (j k : ℕ) (e : RowOf) → j < n → k < n → (get_or ix j e).id ≡ (get_or ix k e).id → j ≡ k
+
+-- how many nodes can have a row
+abbrev pub room_of : Table → ℕ
+room_of t = vec_len t.index
 
 -- a table shows n rows, and which one for each node
 abbrev pub shows : Table → ℕ → Lookup → Type 0

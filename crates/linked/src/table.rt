@@ -1,6 +1,6 @@
 // Rows under an index of identifiers. The entries of the index behind the used ones hold the free rows.
-ghost use Rattle.std.specs.Prelude.{◌≡◌, ℕ, vec_len};
-ghost use Rattle.linked.specs.Tables.{Lookup, shows, RowFound};
+ghost use Rattle.std.specs.Prelude.{◌≡◌, ℕ};
+ghost use Rattle.linked.specs.Tables.{Lookup, room_of, shows, RowFound};
 
 use crate::row::Row;
 use ordered::{RowOf, row_of};
@@ -27,7 +27,7 @@ impl Table {
 
     // How many nodes can have one.
     pub fn room(&self) -> usize
-        ensures { result ≡ vec_len self.now.index }
+        ensures { result ≡ room_of self.now }
     {
         self.index.len()
     }

@@ -1,7 +1,7 @@
 // A new store: no node has a row.
-ghost use Rattle.std.specs.Prelude.{◌≡◌, IfOk, vec_len};
+ghost use Rattle.std.specs.Prelude.{◌≡◌, IfOk};
 ghost use Rattle.document.specs.Tree.{nil};
-ghost use Rattle.linked.specs.Document.{document};
+ghost use Rattle.linked.specs.Document.{document, limit_of};
 
 use super::LinkedStore;
 use crate::table::Table;
@@ -12,13 +12,13 @@ pub const ROOM: usize = 1000;
 
 impl LinkedStore {
     pub fn new(heap: Global) -> Result<LinkedStore, AllocError>
-        ensures { IfOk result (λ s. (document s ≡ nil) × (vec_len s.table.index ≡ 1000)) }
+        ensures { IfOk result (λ s. (document s ≡ nil) × (limit_of s ≡ 1000)) }
     {
         LinkedStore::with_room(heap, ROOM)
     }
 
     pub fn with_room(heap: Global, room: usize) -> Result<LinkedStore, AllocError>
-        ensures { IfOk result (λ s. (document s ≡ nil) × (vec_len s.table.index ≡ room)) }
+        ensures { IfOk result (λ s. (document s ≡ nil) × (limit_of s ≡ room)) }
     {
         let table = Table::with_room(heap, room)?;
         Ok(LinkedStore { table, root: 0 })

@@ -1,8 +1,8 @@
 // Questions: one look-up each.
-ghost use Rattle.std.specs.Prelude.{◌≡◌, vec_len};
+ghost use Rattle.std.specs.Prelude.{◌≡◌};
 ghost use Rattle.store.specs.Views.{view, asked};
 ghost use Rattle.linked.specs.Rows.{row_of};
-ghost use Rattle.linked.specs.Document.{document};
+ghost use Rattle.linked.specs.Document.{document, limit_of};
 
 use super::LinkedStore;
 use crate::row::Row;
@@ -22,7 +22,7 @@ impl LinkedStore {
 impl Reading for LinkedStore {
     ghost forest = { document };
 
-    ghost limit = { λ s. vec_len s.table.index };
+    ghost limit = { limit_of };
 
     fn kept(&self) {}
 

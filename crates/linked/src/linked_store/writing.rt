@@ -1,9 +1,9 @@
 // Writes: the tests that all stores share, then a constant number of rows and the shift in the index.
-ghost use Rattle.std.specs.Prelude.{◌≡◌, ℕ, if◌then◌else◌, Some, Ok, vec_len, nat_eq};
+ghost use Rattle.std.specs.Prelude.{◌≡◌, ℕ, if◌then◌else◌, Some, Ok, nat_eq};
 ghost use Rattle.store.specs.Views.{view};
 ghost use Rattle.store.specs.Says.{put_says, put_leaves, take_says, take_leaves};
 ghost use Rattle.store.specs.Links.{next_child, attribute_before, attribute_from};
-ghost use Rattle.linked.specs.Document.{document};
+ghost use Rattle.linked.specs.Document.{document, limit_of};
 ghost use Rattle.linked.specs.Rows.{seen};
 ghost use Rattle.linked.specs.Places.{neighbours as neighbours_of, stands_behind};
 
@@ -66,9 +66,9 @@ impl LinkedStore {
     }
 
     fn put_in(&mut self, node: Node, left: u32)
-        requires { put_says (vec_len self.old.table.index) (document self.old) node left ≡ Ok tt }
-        ensures leaves { document self.new ≡ put_leaves (vec_len self.old.table.index) (document self.old) node left }
-        ensures room { vec_len self.new.table.index ≡ vec_len self.old.table.index }
+        requires { put_says (limit_of self.old) (document self.old) node left ≡ Ok tt }
+        ensures leaves { document self.new ≡ put_leaves (limit_of self.old) (document self.old) node left }
+        ensures room { limit_of self.new ≡ limit_of self.old }
     {
         let among = Siblings::of(node.kind);
         let (before, next) = self.neighbours(among, node, left);
@@ -82,7 +82,7 @@ impl LinkedStore {
         requires says { take_says (document self.old) row.node.id ≡ Ok tt }
         requires there { view (document self.old) row.node.id ≡ Some (seen row) }
         ensures leaves { document self.new ≡ take_leaves (document self.old) row.node.id }
-        ensures room { vec_len self.new.table.index ≡ vec_len self.old.table.index }
+        ensures room { limit_of self.new ≡ limit_of self.old }
     {
         let among = Siblings::of(row.node.kind);
         let before = self.sibling_before(among, row);
@@ -93,7 +93,7 @@ impl LinkedStore {
     fn take_out(&mut self, id: u32)
         requires { take_says (document self.old) id ≡ Ok tt }
         ensures leaves { document self.new ≡ take_leaves (document self.old) id }
-        ensures room { vec_len self.new.table.index ≡ vec_len self.old.table.index }
+        ensures room { limit_of self.new ≡ limit_of self.old }
     {
         if let Ok(row) = self.row(id) {
             self.take_row(row);

@@ -1,7 +1,7 @@
 // One row changed, one more and one fewer.
-ghost use Rattle.std.specs.Prelude.{◌≡◌, ℕ, ◌+◌, ◌-◌, ◌<◌, Some, None, vec_len};
+ghost use Rattle.std.specs.Prelude.{◌≡◌, ℕ, ◌+◌, ◌-◌, ◌<◌, Some, None};
 ghost use Rattle.linked.specs.declared.row.Row.{Row as RowType};
-ghost use Rattle.linked.specs.Tables.{Lookup, Computes, shows, changed, with_row, without_row};
+ghost use Rattle.linked.specs.Tables.{Lookup, room_of, Computes, shows, changed, with_row, without_row};
 
 use super::Table;
 use crate::row::Row;
@@ -11,7 +11,7 @@ impl Table {
     // Changes the row of a node by `f`; where there is no such node nothing changes.
     pub fn change<F: Fn(Row) -> Row>(&mut self, id: u32, f: F)
         requires { F.IsAlwaysCallable f }
-        ensures room { vec_len self.new.index ≡ vec_len self.old.index }
+        ensures room { room_of self.new ≡ room_of self.old }
         ensures shows { (g : RowType → RowType) → Computes (F.post f) g → (n : ℕ) (look : Lookup) → shows self.old n look → shows self.new n (changed id g look) }
     {
         if let Some(at) = self.row_number(id) {
@@ -21,8 +21,8 @@ impl Table {
 
     // Puts a row in, under the identifier of its node, where there is room.
     pub fn enter(&mut self, row: Row)
-        ensures room { vec_len self.new.index ≡ vec_len self.old.index }
-        ensures shows { (n : ℕ) (look : Lookup) → shows self.old n look → look row.node.id ≡ None → n < vec_len self.old.index → shows self.new (n + 1) (with_row row.node.id row look) }
+        ensures room { room_of self.new ≡ room_of self.old }
+        ensures shows { (n : ℕ) (look : Lookup) → shows self.old n look → look row.node.id ≡ None → n < room_of self.old → shows self.new (n + 1) (with_row row.node.id row look) }
     {
         if self.used >= self.index.len() {
             return;
@@ -38,7 +38,7 @@ impl Table {
 
     // Takes the row of a node out; it is free afterwards.
     pub fn leave(&mut self, id: u32)
-        ensures room { vec_len self.new.index ≡ vec_len self.old.index }
+        ensures room { room_of self.new ≡ room_of self.old }
         ensures shows { (n : ℕ) (look : Lookup) (w : RowType) → shows self.old n look → look id ≡ Some w → shows self.new (n - 1) (without_row id look) }
     {
         if let Some(at) = place_of(&self.index, self.used, id) {

@@ -1,7 +1,7 @@
 // A new table: every row is free.
 ghost use Rattle.std.specs.Prelude.{◌≡◌, ℕ, ◌<◌, IfOk, None, vec_len, slice_index_or};
 ghost use Rattle.ordered.specs.declared.entries.RowOf.{RowOf as Entry};
-ghost use Rattle.linked.specs.Tables.{shows};
+ghost use Rattle.linked.specs.Tables.{room_of, shows};
 
 use super::Table;
 use crate::row::Row;
@@ -17,7 +17,7 @@ fn free_rows(heap: Global, room: usize) -> Result<Vec<RowOf>, AllocError>
 
 impl Table {
     pub fn with_room(heap: Global, room: usize) -> Result<Table, AllocError>
-        ensures { IfOk result (λ t. (vec_len t.index ≡ room) × shows t 0 (λ k. None)) }
+        ensures { IfOk result (λ t. (room_of t ≡ room) × shows t 0 (λ k. None)) }
     {
         let index = free_rows(heap, room)?;
         let rows = vec![in heap; Row::default(); room]?;
