@@ -1,5 +1,5 @@
 -- What a linked store's memory tells of the document that it holds.
-use Rattle.std.proofs.Common.{◌≡◌, ℕ, ◌≤◌, Some, None, vec_len, Option, sym, ap, subst}
+use Rattle.std.proofs.Common.{◌≡◌, ℕ, ◌≤◌, Some, None, Option, sym, ap, subst}
 use mathlib.Core.Logic.{∥∥₁_elim, ∥∥₁_map}
 use native.Mathlib.Nat.{ℕ_set}
 use native.Mathlib.Bridge.{le_prop}
@@ -18,7 +18,7 @@ use Rattle.linked.specs.declared.linked_store.LinkedStore.{LinkedStore}
 use Rattle.linked.specs.Rows.{row_of}
 use Rattle.linked.specs.Tables.{Lookup, shows}
 use Rattle.linked.specs.Stores.{Stores, rows_of, one_document}
-use Rattle.linked.specs.Document.{document}
+use Rattle.linked.specs.Document.{document, limit_of}
 
 pub holds : (s : LinkedStore) → ∥ Stores s.table s.root (document s) ∥₁
 holds s = meant_holds (Stores s.table s.root) (one_document s.table s.root) s.stands
@@ -39,7 +39,7 @@ is_counted s = ∥∥₁_elim (holds s) (ℕ_set _ _) (λ h. h.shown.0)
 pub is_rooted : (s : LinkedStore) → s.root ≡ first_of (document s)
 is_rooted s = ∥∥₁_elim (holds s) (ℕ_set _ _) (λ h. h.rooted)
 
-pub fits : (s : LinkedStore) → s.table.used ≤ vec_len s.table.index
+pub fits : (s : LinkedStore) → s.table.used ≤ limit_of s
 fits s = subst (λ (n : ℕ). s.table.used ≤ n) (sym s.table.index.ok.0) (∥∥₁_elim (holds s) le_prop (λ h. h.shown.1.within))
 
 pub looked_up : (s : LinkedStore) (t : ℕ) (o : Option Row) → ((n : ℕ) (look : Lookup) → shows s.table n look → o ≡ look t) → o ≡ option_map row_of (view (document s) t)

@@ -1,5 +1,5 @@
 -- What the memory stands for after a write.
-use Rattle.std.proofs.Common.{◌≡◌, ℕ, ◌+◌, ◌-◌, ◌<◌, ◌≤◌, Bool, true, false, cond, eqb, ◌⊎◌, List, [], length, Some, None, Ok, vec_len, Option, sym, refl, ap, ◌∙◌, subst, inl, inr, arith, length-append, length-drop, length-take}
+use Rattle.std.proofs.Common.{◌≡◌, ℕ, ◌+◌, ◌-◌, ◌<◌, ◌≤◌, Bool, true, false, cond, eqb, ◌⊎◌, List, [], length, Some, None, Ok, Option, sym, refl, ap, ◌∙◌, subst, inl, inr, arith, length-append, length-drop, length-take}
 use mathlib.Core.Logic.{∥∥₁_map}
 use Rattle.std.specs.Option.{option_map}
 use Rattle.std.proofs.lemmas.Bool.{eq-eqb, ne_eqb, eqb-false, cond-true, cond-false, cases_lt}
@@ -29,7 +29,7 @@ use Rattle.linked.specs.Rows.{seen, row, row_of, with_record, row_among, sibling
 use Rattle.linked.specs.Tables.{Lookup, shows, changed, linked_in, linked_out}
 use Rattle.linked.specs.Stores.{Stores, rows_of}
 use Rattle.linked.specs.Places.{neighbours, stands_behind}
-use Rattle.linked.specs.Document.{document}
+use Rattle.linked.specs.Document.{document, limit_of}
 use Rattle.linked.proofs.Holding.{holds}
 use Rattle.linked.proofs.Putting.{put_shown}
 use Rattle.linked.proofs.Taking.{take_shown}
@@ -76,44 +76,44 @@ among_node : (a : Siblings) (n : Node) (l m : ℕ) → (row_among a n l m).node 
 among_node Children n l m = refl
 among_node Attributes n l m = refl
 
-module _ (s : LinkedStore) (n : Node) (l : ℕ) (ok : put_says (vec_len s.table.index) (document s) n l ≡ Ok tt) where
-  has_room : Stores s.table s.root (document s) → size (document s) < vec_len s.table.index
+module _ (s : LinkedStore) (n : Node) (l : ℕ) (ok : put_says (limit_of s) (document s) n l ≡ Ok tt) where
+  has_room : Stores s.table s.root (document s) → size (document s) < limit_of s
   has_room h =
-      let a = puts.accepted (vec_len s.table.index) (document s) n l ok in
+      let a = puts.accepted (limit_of s) (document s) n l ok in
       let w = h.shown.1.within in
       let c = h.shown.0 in
       let e = s.table.index.ok.0 in
-      go (cases_lt (size (document s)) (vec_len s.table.index)) a (omega arith)
+      go (cases_lt (size (document s)) (limit_of s)) a (omega arith)
     where
-      go : (size (document s) < vec_len s.table.index) ⊎ (vec_len s.table.index ≤ size (document s)) → puts.Accepted (vec_len s.table.index) (document s) n l → size (document s) ≤ vec_len s.table.index
-          → size (document s) < vec_len s.table.index
+      go : (size (document s) < limit_of s) ⊎ (limit_of s ≤ size (document s)) → puts.Accepted (limit_of s) (document s) n l → size (document s) ≤ limit_of s
+          → size (document s) < limit_of s
       go (inl h) a w = h
       go (inr h) a w = absurd (a.room_left (omega arith))
 
   same : Stores s.table s.root (document s)
       → (among : Siblings) → among ≡ siblings_of n.kind → (pair : ℕ × ℕ) → pair ≡ neighbours (document s) among n l → (w : Row) → w ≡ row_among among n l pair.1
-      → (u : ℕ) → linked_in among pair.0 w (rows_of (document s)) u ≡ rows_of (put_leaves (vec_len s.table.index) (document s) n l) u
+      → (u : ℕ) → linked_in among pair.0 w (rows_of (document s)) u ≡ rows_of (put_leaves (limit_of s) (document s) n l) u
   same h among ea pair ep w ew u =
-      subst (λ (x : Row). linked_in among pair.0 x (rows_of (document s)) u ≡ rows_of (put_leaves (vec_len s.table.index) (document s) n l) u) (sym ew)
-      (subst (λ (q : ℕ × ℕ). linked_in among q.0 (row_among among n l q.1) (rows_of (document s)) u ≡ rows_of (put_leaves (vec_len s.table.index) (document s) n l) u) (sym ep)
-      (subst (λ (a : Siblings). linked_in a (neighbours (document s) a n l).0 (row_among a n l (neighbours (document s) a n l).1) (rows_of (document s)) u ≡ rows_of (put_leaves (vec_len s.table.index) (document s) n l) u) (sym ea)
-      (put_shown (vec_len s.table.index) (document s) n l h.kept ok u)))
+      subst (λ (x : Row). linked_in among pair.0 x (rows_of (document s)) u ≡ rows_of (put_leaves (limit_of s) (document s) n l) u) (sym ew)
+      (subst (λ (q : ℕ × ℕ). linked_in among q.0 (row_among among n l q.1) (rows_of (document s)) u ≡ rows_of (put_leaves (limit_of s) (document s) n l) u) (sym ep)
+      (subst (λ (a : Siblings). linked_in a (neighbours (document s) a n l).0 (row_among a n l (neighbours (document s) a n l).1) (rows_of (document s)) u ≡ rows_of (put_leaves (limit_of s) (document s) n l) u) (sym ea)
+      (put_shown (limit_of s) (document s) n l h.kept ok u)))
 
   pub put_stored : (t : Table) (among : Siblings) (pair : ℕ × ℕ) (w : Row) (root : ℕ)
       → among ≡ siblings_of n.kind → pair ≡ neighbours (document s) among n l → w ≡ row_among among n l pair.1 → root ≡ cond (eqb n.parent 0) n.id s.root
-      → ((m : ℕ) (look : Lookup) → shows s.table m look → look w.node.id ≡ None → m < vec_len s.table.index → shows t (m + 1) (linked_in among pair.0 w look))
-      → ∥ Stores t root (put_leaves (vec_len s.table.index) (document s) n l) ∥₁
+      → ((m : ℕ) (look : Lookup) → shows s.table m look → look w.node.id ≡ None → m < limit_of s → shows t (m + 1) (linked_in among pair.0 w look))
+      → ∥ Stores t root (put_leaves (limit_of s) (document s) n l) ∥₁
   put_stored t among pair w root ea ep ew er E = ∥∥₁_map (holds s) (λ h.
-      let a = puts.accepted (vec_len s.table.index) (document s) n l ok in
+      let a = puts.accepted (limit_of s) (document s) n l ok in
       let id : w.node.id ≡ n.id = ap (λ (x : Row). x.node.id) ew ∙ ap (λ (x : Node). x.id) (among_node among n l pair.1) in
       let none : rows_of (document s) w.node.id ≡ None = ap (rows_of (document s)) id ∙ ap (option_map row_of) (absent n.id 0 0 (document s) a.new) in
-      let leaves = puts.leaves_accepted (vec_len s.table.index) (document s) n l ok in
+      let leaves = puts.leaves_accepted (limit_of s) (document s) n l ok in
       let after = E (size (document s)) (rows_of (document s)) h.shown none (has_room h) in
-      let grown = puts.put_size (vec_len s.table.index) (document s) n l h.kept a in
+      let grown = puts.put_size (limit_of s) (document s) n l h.kept a in
       record {
-        kept = subst Kept (sym leaves) (puts.put_kept (vec_len s.table.index) (document s) n l h.kept a);
+        kept = subst Kept (sym leaves) (puts.put_kept (limit_of s) (document s) n l h.kept a);
         rooted = er ∙ ap (λ (r : ℕ). cond (eqb n.parent 0) n.id r) h.rooted ∙ sym (ap first_of leaves ∙ put_root (document s) n l);
-        shown = shown_as t _ _ (linked_in among pair.0 w (rows_of (document s))) (rows_of (put_leaves (vec_len s.table.index) (document s) n l)) (sym grown ∙ ap size (sym leaves)) (same h among ea pair ep w ew) after;
+        shown = shown_as t _ _ (linked_in among pair.0 w (rows_of (document s))) (rows_of (put_leaves (limit_of s) (document s) n l)) (sym grown ∙ ap size (sym leaves)) (same h among ea pair ep w ew) after;
       })
 
 -- ---- a node taken out

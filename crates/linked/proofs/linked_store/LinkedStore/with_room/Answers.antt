@@ -1,9 +1,8 @@
-use Rattle.std.proofs.Common.{refl, arith}
+use Rattle.std.proofs.Common.{None, refl, arith}
 use Rattle.document.specs.Tree.{nil}
 use Rattle.linked.specs.declared.table.Table.{Table}
 use Rattle.linked.specs.Stores.{Stores}
 use Rattle.linked.specs.Tables.{shows}
-use Rattle.std.proofs.Common.{None}
 use Rattle.linked.proofs.Holding.{stands_for}
 use Rattle.linked.proofs.linked_store.LinkedStore.with_room.Goals as goal
 
