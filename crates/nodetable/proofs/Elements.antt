@@ -1,8 +1,11 @@
 -- The open elements: outermost first in the slots, innermost first as a list of identifiers.
-use Rattle.std.proofs.Common.{◌≡◌, ℕ, suc, ◌+◌, ◌-◌, ◌<◌, ◌≤◌, Bool, true, false, cond, ◌&&◌, eqb, ltb, List, [], ◌∷◌, ◌++◌, length, get_or, take, drop, set, Some, None, Option, sym, refl, ap, ◌∙◌, arith, length-append, length-take}
-use Rattle.std.proofs.lemmas.List.{take_more, take_more_set, take-take, take_all, at_drop_more}
-use Rattle.std.proofs.Math.Seq.{take-append_seam}
-use Rattle.std.proofs.lemmas.Bool.{lt-ltb, le-ltb}
+use Rattle.std.proofs.Common.{◌≡◌, ℕ, suc, ◌+◌, ◌-◌, ◌<◌, ◌≤◌, Bool, true, false, cond, not, ◌&&◌, eqb, ltb, List, [], ◌∷◌, ◌++◌, length, get_or, take, drop, set, Some, None, Option, sym, refl, ap, ◌∙◌, arith, length-append, length-take}
+use Rattle.std.proofs.lemmas.List.{take_more, take_more_set, take-take, take_all, take-append-le, at_drop_more, length-reverse, reverse-reverse}
+use Rattle.std.proofs.lemmas.Grind.{reverse_onto}
+use Rattle.std.proofs.lemmas.Option.{none-some, same_Some}
+use Rattle.std.specs.List.{position_or_len, position}
+use mathlib.Core.List.{reverse}
+use Rattle.std.proofs.lemmas.Bool.{lt-ltb, le-ltb, ltb-false}
 use Rattle.records.specs.declared.nodes.Kind.{Kind}
 use Rattle.records.specs.declared.nodes.Kind.TheVariants.{Element, Attribute, Text}
 use Rattle.records.specs.declared.nodes.Node.{Node}
@@ -34,12 +37,65 @@ closed_past p ss around s e ne = rw (e, open_ids_push around s, ne)
 pub closed_here : (p : ℕ) (ss around : List Slot) (s : Slot) → ss ≡ around ++ s ∷ [] → eqb s.id p ≡ true → closed_to p (open_ids ss) ≡ open_ids ss
 closed_here p ss around s e h = rw (e, open_ids_push around s, h)
 
--- those around the innermost are the front of what was a front
-pub around_front : (ss all around : List Slot) (s : Slot) → ss ≡ take (length ss) all → ss ≡ around ++ s ∷ [] → length around + 1 ≡ length ss
-    → around ≡ take (length around) all
-around_front ss all around s front e long =
-    let f : take (length around) ss ≡ around = rw e (take-append_seam around (s ∷ [])) in
-    sym f ∙ ap (take (length around)) front ∙ take-take (length around) (length ss) all (omega arith)
+abbrev pub is_slot_of : ℕ → Slot → Bool
+is_slot_of p s = eqb s.id p
+
+-- how many elements are passed over up to p, innermost first
+abbrev passed : ℕ → List Slot → ℕ
+passed p ys = position_or_len (is_slot_of p) ys
+
+passed_within : (p : ℕ) (ys : List Slot) → passed p ys ≤ length ys
+passed_within p [] = omega arith
+passed_within p (y ∷ ys) = go (eqb y.id p) (passed_within p ys)
+  where
+    go : (b : Bool) → passed p ys ≤ length ys → cond (not b) (1 + passed p ys) 0 ≤ suc (length ys)
+    go true h = omega arith
+    go false h = omega arith
+
+left_open : (p : ℕ) (ys : List Slot) → open_ids (take (length ys - passed p ys) (reverse ys)) ≡ closed_to p (open_ids (reverse ys))
+left_open p [] = refl
+left_open p (y ∷ ys) = go (eqb y.id p) refl (left_open p ys)
+  where
+    all : List Slot
+    all = reverse (y ∷ ys)
+
+    parted : all ≡ reverse ys ++ y ∷ []
+    parted = reverse_onto ys y []
+
+    go : (b : Bool) → eqb y.id p ≡ b → open_ids (take (length ys - passed p ys) (reverse ys)) ≡ closed_to p (open_ids (reverse ys))
+        → open_ids (take (suc (length ys) - cond (not b) (1 + passed p ys) 0) all) ≡ closed_to p (open_ids all)
+    go true e h =
+        let n : suc (length ys) - 0 ≡ suc (length ys) = omega arith in
+        ap (λ m. open_ids (take m all)) n
+        ∙ ap open_ids (take_all (suc (length ys)) all (omega (arith, length-reverse (y ∷ ys))))
+        ∙ sym (closed_here p all (reverse ys) y parted e)
+    go false e h =
+        let n : suc (length ys) - (1 + passed p ys) ≡ length ys - passed p ys = omega arith in
+        ap (λ m. open_ids (take m all)) n
+        ∙ ap (λ (k : List Slot). open_ids (take (length ys - passed p ys) k)) parted
+        ∙ ap open_ids (take-append-le (length ys - passed p ys) (reverse ys) (y ∷ []) (omega (arith, length-reverse ys)))
+        ∙ h
+        ∙ closed_past p all (reverse ys) y parted e
+
+stays_open : (p : ℕ) (ss : List Slot) → open_ids (take (length ss - passed p (reverse ss)) ss) ≡ closed_to p (open_ids ss)
+stays_open p ss = let e = left_open p (reverse ss) in rw (reverse-reverse ss, length-reverse ss) at e
+
+-- what a search from the innermost element on answers
+pub open_from_found : (p : ℕ) (ss : List Slot) (k : ℕ) → Some k ≡ position (is_slot_of p) (reverse ss) → open_ids (take (length ss - k) ss) ≡ closed_to p (open_ids ss)
+open_from_found p ss k = go (ltb (passed p (reverse ss)) (length (reverse ss)))
+  where
+    go : (b : Bool) → Some k ≡ cond b (Some (passed p (reverse ss))) None → open_ids (take (length ss - k) ss) ≡ closed_to p (open_ids ss)
+    go false e = absurd (none-some _ (sym e))
+    go true e = ap (λ n. open_ids (take (length ss - n) ss)) (same_Some _ _ e) ∙ stays_open p ss
+
+pub none_open : (p : ℕ) (ss : List Slot) → None ≡ position (is_slot_of p) (reverse ss) → [] ≡ closed_to p (open_ids ss)
+none_open p ss = go (ltb (passed p (reverse ss)) (length (reverse ss))) refl
+  where
+    go : (b : Bool) → ltb (passed p (reverse ss)) (length (reverse ss)) ≡ b → None ≡ cond b (Some (passed p (reverse ss))) None → [] ≡ closed_to p (open_ids ss)
+    go true e h = absurd (none-some _ h)
+    go false e h =
+        let z : 0 ≡ length ss - passed p (reverse ss) = omega (arith, length-reverse ss, ltb-false _ _ e) in
+        ap (λ n. open_ids (take n ss)) z ∙ stays_open p ss
 
 pub innermost_last : (p : ℕ) (ss : List Slot) (s : Slot) → 0 < length ss → s ≡ get_or ss (length ss - 1) s → innermost p (open_ids ss) ≡ eqb s.id p
 innermost_last p ss s h at =

@@ -12,14 +12,10 @@ pub fn still_open(parent: u32, elements: &[Slot]) -> usize
     ensures within { result ≤ length elements.now }
     ensures kept { open_ids (take result elements.now) ≡ closed_to parent (open_ids elements.now) }
 {
-    let mut open = elements;
-    while let Some((innermost, around)) = open.split_last() {
-        if innermost.is_for(parent) {
-            break;
-        }
-        open = around;
+    match elements.iter().rev().position(|slot| slot.is_for(parent)) {
+        Some(inside) => elements.len() - inside,
+        None => 0,
     }
-    open.len()
 }
 
 impl<'a> OpenElements<'a> {
