@@ -1,5 +1,5 @@
 // Rows and entries that make room, or close up. Each table comes whole, with the number of its entries in use: a new one takes the place behind them.
-ghost use Rattle.std.specs.Prelude.{◌≡◌, ℕ, ◌<◌, ◌≤◌, length};
+ghost use Rattle.std.specs.Prelude.{◌≡◌, ℕ, ◌+◌, ◌^◌, ◌<◌, ◌≤◌, length};
 ghost use Rattle.flat.specs.Means.{at, entry as entry_at};
 ghost use Rattle.flat.specs.Shifts.{CanChange, EachChanged, shrunk as shrinks, drawn as draws, lowered as lowers, grown as grows, lifted as lifts, raised as raises, Taken, Unlisted, Planted, Enlisted};
 
@@ -76,7 +76,7 @@ pub fn take_out(rows: &mut [FlatRow], used: usize, gone: usize)
     rows.copy_within(gone + 1..used, gone);
 }
 
-// Takes its entry out of the first `used` entries.
+// Takes the entry of the row that goes out of the first `used` entries; where there is none, none goes.
 pub fn unlist(index: &mut [RowOf], used: usize, gone: usize)
     requires { used ≤ length index.old }
     ensures { Unlisted index.old used gone index.new }
@@ -91,7 +91,7 @@ pub fn unlist(index: &mut [RowOf], used: usize, gone: usize)
 
 // The row at `place`, larger by one if it counts the row `parent`.
 fn grown(row: FlatRow, place: usize, parent: usize) -> FlatRow
-    requires { row.size < 18446744073709551615 }
+    requires { row.size + 1 < 2 ^ 64 }
     ensures { result ≡ grows parent place row }
 {
     if place <= parent && parent - place < row.size {
@@ -106,7 +106,7 @@ fn grown(row: FlatRow, place: usize, parent: usize) -> FlatRow
 
 // The row at `place`, which moves up by one: farther from its parent if that stands before the row that comes.
 fn lifted(row: FlatRow, place: usize, new: usize) -> FlatRow
-    requires { (row.distance ≤ place) × (place < 18446744073709551615) }
+    requires { (row.distance ≤ place) × (place + 1 < 2 ^ 64) }
     ensures { result ≡ lifts new place row }
 {
     if place - row.distance < new {
@@ -120,7 +120,7 @@ fn lifted(row: FlatRow, place: usize, new: usize) -> FlatRow
 }
 
 fn raised(entry: RowOf, new: usize) -> RowOf
-    requires { entry.row < 18446744073709551615 }
+    requires { entry.row + 1 < 2 ^ 64 }
     ensures { result ≡ raises new entry }
 {
     if new <= entry.row {
@@ -136,7 +136,7 @@ fn raised(entry: RowOf, new: usize) -> RowOf
 // Puts a row for `node` at a spot among the first `used` rows.
 pub fn put_in(rows: &mut [FlatRow], used: usize, spot: Spot, node: Node)
     requires within { (spot.parent ≤ spot.place) × (spot.place ≤ used) × (used < length rows.old) }
-    requires sizes { (m : ℕ) → m < spot.place → (at rows.old m).size < 18446744073709551615 }
+    requires sizes { (m : ℕ) → m < spot.place → (at rows.old m).size + 1 < 2 ^ 64 }
     requires distances { (k : ℕ) → spot.place ≤ k → k < used → (at rows.old k).distance ≤ k }
     ensures { Planted rows.old used spot.place spot.parent node rows.new }
 {
@@ -158,9 +158,10 @@ pub fn put_in(rows: &mut [FlatRow], used: usize, spot: Spot, node: Node)
 // Puts an entry among the first `used` entries.
 pub fn enlist(index: &mut [RowOf], used: usize, entry: RowOf)
     requires within { used ≤ length index.old }
-    requires rows { (k : ℕ) → k < used → (entry_at index.old k).row < 18446744073709551615 }
+    requires rows { (k : ℕ) → k < used → (entry_at index.old k).row + 1 < 2 ^ 64 }
     ensures { Enlisted index.old used entry index.new }
 {
     change_each(&mut index[..used], |_, old| raised(old, entry.row));
+    // A full index refuses the entry; whoever calls has tested the room.
     let _ = insert(index, used, entry);
 }
