@@ -1,11 +1,10 @@
-use Rattle.std.proofs.Common.{ℕ, List, refl, ap, subst}
+use Rattle.std.proofs.Common.{ℕ, List, ap}
 use Rattle.document.specs.Tree.{Forest}
 use Rattle.changes.specs.Changes.{Change}
 use Rattle.walk.specs.Ahead.{labels_at}
 use Rattle.reduce.specs.Lists.{changes}
 use Rattle.reduce.specs.Mirror.{left_on_attribute, left_on_attributes}
-use Rattle.reduce.specs.Output.{RoomFor}
-use Rattle.reduce.proofs.Growing.{fits_first, growing_begins, growing_on, growing_ends}
+use Rattle.reduce.proofs.Growing.{growing_begins, growing_on, growing_ends}
 use Rattle.reduce.proofs.Stepping.{attributes_begin, attribute_reduced, no_attributes}
 use Rattle.reduce.proofs.reducing.reduce_attributes.Goals as goal
 
@@ -15,13 +14,6 @@ loop-attribute-init g c =
     let l : List Change = changes c.args.list.now in
     let u = attributes_begin d c.kept.ensures.shape l c.args.id c.first_attribute-attribute.result c.requires.walks c.requires.node c.first_attribute-attribute.ensures in
     (u.0, growing_begins c.args.tables.now _ _ (ap (left_on_attributes l) u.1) c.requires.fits)
-
-pub left_on_attribute-requires : goal.left_on_attribute-requires
-left_on_attribute-requires g c =
-    let d : Forest = g.R.Reading.forest c.args.store.now in
-    let l : List Change = changes c.args.list.now in
-    let u = attribute_reduced d c.kept.ensures.shape l c.args.id c.loop-attribute.attribute _ c.requires.walks c.requires.node c.loop-attribute.invariant.0 c.loop-attribute-test.true refl in
-    fits_first c.loop-attribute.tables (left_on_attribute l c.loop-attribute.attribute) _ (subst (RoomFor c.loop-attribute.tables.used) u.all c.loop-attribute.invariant.1.fits)
 
 pub loop-attribute-smaller : goal.loop-attribute-smaller
 loop-attribute-smaller g c =

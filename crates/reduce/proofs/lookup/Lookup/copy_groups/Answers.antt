@@ -1,5 +1,4 @@
-use Rattle.std.proofs.Common.{◌≡◌, ℕ, ◌+◌, List, [], ◌++◌, length, get_or, drop, sym, ap, ◌∙◌, ap₂, arith, length-append}
-use Rattle.std.proofs.lemmas.List.{drop_all}
+use Rattle.std.proofs.Common.{◌≡◌, ℕ, ◌+◌, List, ◌++◌, length, get_or, drop, sym, ap, ◌∙◌, ap₂, arith, length-append}
 use Rattle.records.specs.declared.nodes.Node.{Node}
 use Rattle.document.specs.Tree.{Forest}
 use Rattle.document.specs.Listing.{rows}
@@ -42,16 +41,3 @@ loop-key-preserved c =
       ap₂ (λ (xs : List Node) (m : ℕ). written xs m (rows 0 B)) (ap (λ (o : Output). o.nodes) left) count
           ∙ (written-++ was.nodes.now was.used.nodes (rows 0 A) (rows 0 B) ∙ (ap (written was.nodes.now was.used.nodes) (sym e) ∙ c.loop-key.invariant.4)),
     )
-
-pub returns : goal.returns
-returns c =
-    let l : List Change = changes c.args.self.now in
-    let e : rows 0 (gathered l (drop c.loop-key.key-index c.args.keys.now)) ≡ [] =
-    ap (λ (q : List Key). rows 0 (gathered l q)) (drop_all c.loop-key.key-index c.args.keys.now c.loop-key-test.false) in
-    let is = c.loop-key.tables in
-    let text = sym (ap (written is.nodes.now is.used.nodes) e) ∙ c.loop-key.invariant.4 in
-    let count : is.used.nodes ≡ c.args.tables.now.used.nodes + length (rows 0 (gathered l c.args.keys.now)) = omega (arith, c.loop-key.invariant.3, ap length e) in
-    record {
-      same = c.loop-key.invariant.0;
-      left = λ j. record { operations = c.loop-key.invariant.1 j; nodes = text j; used = record { operations = c.loop-key.invariant.2 j; nodes = count j } };
-    }

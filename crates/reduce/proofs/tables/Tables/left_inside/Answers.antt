@@ -1,4 +1,4 @@
-use Rattle.std.proofs.Common.{List, ◌++◌, sym, subst, arith}
+use Rattle.std.proofs.Common.{List, ◌++◌, sym, subst}
 use Rattle.records.specs.declared.operations.Code.TheVariants.{InsertAttributes}
 use Rattle.changes.specs.Changes.{Change}
 use Rattle.changes.specs.Reduced.{insertion, new_value, new_name}
@@ -9,17 +9,6 @@ use Rattle.reduce.proofs.Adding.{gathered_one}
 use Rattle.reduce.proofs.Growing.{grown_as, grown_then, fits_first, fits_then}
 use Rattle.reduce.proofs.Inside.{unless_replaced, new_content}
 use Rattle.reduce.proofs.tables.Tables.left_inside.Goals as goal
-
-pub insert_first-requires : goal.insert_first-requires
-insert_first-requires c =
-    let l : List Change = changes c.args.list.now in
-    let t = c.args.target in
-    let A = unless_replaced l t (group l c.args.below.target c.args.below.code) in
-    let B = insertion t InsertAttributes (group l t InsertAttributes) in
-    let V = new_value t (value_on l t) in
-    let D = new_content l t in
-    let N = new_name t (name_on l t) in
-    fits_first c.args.self.now A (B ++ (V ++ (D ++ N))) c.requires
 
 pub insert-requires : goal.insert-requires
 insert-requires c =
@@ -32,20 +21,6 @@ insert-requires c =
     let N = new_name t (name_on l t) in
     let f = fits_then c.args.self.now c.insert_first.new.self A (B ++ (V ++ (D ++ N))) c.insert_first.ensures c.requires in
     subst (RoomFor c.insert_first.new.self.used) (gathered_one t InsertAttributes (group l t InsertAttributes)) (fits_first c.insert_first.new.self B (V ++ (D ++ N)) f)
-
-pub put_value-requires : goal.put_value-requires
-put_value-requires c =
-    let l : List Change = changes c.args.list.now in
-    let t = c.args.target in
-    let A = unless_replaced l t (group l c.args.below.target c.args.below.code) in
-    let B = insertion t InsertAttributes (group l t InsertAttributes) in
-    let V = new_value t (value_on l t) in
-    let D = new_content l t in
-    let N = new_name t (name_on l t) in
-    let f = fits_then c.args.self.now c.insert_first.new.self A (B ++ (V ++ (D ++ N))) c.insert_first.ensures c.requires in
-    let b = grown_as c.insert_first.new.self c.insert.new.self _ _ (sym (gathered_one t InsertAttributes (group l t InsertAttributes))) c.insert.ensures in
-    let g = fits_then c.insert_first.new.self c.insert.new.self B (V ++ (D ++ N)) b f in
-    omega (arith, g.0)
 
 pub put_content-requires : goal.put_content-requires
 put_content-requires c =
@@ -61,22 +36,6 @@ put_content-requires c =
     let g = fits_then c.insert_first.new.self c.insert.new.self B (V ++ (D ++ N)) b f in
     let h = fits_then c.insert.new.self c.put_value.new.self V (D ++ N) c.put_value.ensures g in
     fits_first c.put_value.new.self D N h
-
-pub put_name-requires : goal.put_name-requires
-put_name-requires c =
-    let l : List Change = changes c.args.list.now in
-    let t = c.args.target in
-    let A = unless_replaced l t (group l c.args.below.target c.args.below.code) in
-    let B = insertion t InsertAttributes (group l t InsertAttributes) in
-    let V = new_value t (value_on l t) in
-    let D = new_content l t in
-    let N = new_name t (name_on l t) in
-    let f = fits_then c.args.self.now c.insert_first.new.self A (B ++ (V ++ (D ++ N))) c.insert_first.ensures c.requires in
-    let b = grown_as c.insert_first.new.self c.insert.new.self _ _ (sym (gathered_one t InsertAttributes (group l t InsertAttributes))) c.insert.ensures in
-    let g = fits_then c.insert_first.new.self c.insert.new.self B (V ++ (D ++ N)) b f in
-    let h = fits_then c.insert.new.self c.put_value.new.self V (D ++ N) c.put_value.ensures g in
-    let i = fits_then c.put_value.new.self c.put_content.new.self D N c.put_content.ensures h in
-    omega (arith, i.0)
 
 pub returns : goal.returns
 returns c =
