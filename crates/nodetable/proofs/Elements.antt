@@ -141,21 +141,26 @@ length_closed p (e ∷ es) = go (eqb e p) (length_closed p es)
     go true l = omega arith
     go false l = omega arith
 
--- an element or another node that comes where some elements stay open
-module _ (es : List ℕ) (x : Node) (some : 0 < length (closed_to x.parent es)) where
-  child : after_child es x ≡ Some (opened x.kind x.id (closed_to x.parent es), takes_above x.kind)
-  child = rw (innermost_closed x.parent es some)
+-- a node below p opens what it opens, where not all slots are used by those around it
+pub opened_below : (k : Kind) (id p room : ℕ) (es : List ℕ) → length es < room
+    → cond (ltb (length (closed_to p es)) room) (opened k id (closed_to p es)) (closed_to p es) ≡ opened k id (closed_to p es)
+opened_below k id p room es h =
+    let some : ltb (length (closed_to p es)) room ≡ true = lt-ltb _ _ (omega (arith, length_closed p es, h)) in
+    rw some
 
-  pub child_element : x.kind ≡ Element → after_child es x ≡ Some (x.id ∷ closed_to x.parent es, Some 0)
-  child_element k = child ∙ rw k
+pub length_opened : (k : Kind) (id p : ℕ) (es : List ℕ) → length (opened k id (closed_to p es)) ≤ length es + 1
+length_opened Element id p es = omega (arith, length_closed p es)
+length_opened Attribute id p es = omega (arith, length_closed p es)
+length_opened Text id p es = omega (arith, length_closed p es)
 
-  pub child_other : (x.kind ≡ Element → ⊥) → after_child es x ≡ Some (closed_to x.parent es, None)
-  child_other ne = child ∙ go x.kind refl
-    where
-      go : (κ : Kind) → x.kind ≡ κ → ◌≡◌ {A = Option (List ℕ × Option ℕ)} (Some (opened κ x.id (closed_to x.parent es), takes_above κ)) (Some (closed_to x.parent es, None))
-      go Element k = absurd (ne k)
-      go Attribute k = refl
-      go Text k = refl
+pub takes_none : (k : Kind) → (k ≡ Element → ⊥) → takes_above k ≡ None
+takes_none Element ne = absurd (ne refl)
+takes_none Attribute ne = refl
+takes_none Text ne = refl
+
+-- a node that comes where some elements stay open
+pub child_passes : (es : List ℕ) (x : Node) → 0 < length (closed_to x.parent es) → after_child es x ≡ Some (opened x.kind x.id (closed_to x.parent es), takes_above x.kind)
+child_passes es x some = rw (innermost_closed x.parent es some)
 
 -- what the scan answers, by what is open behind the next node
 abbrev pub onward : ℕ → List Node → Option (List ℕ × Option ℕ) → Option ℕ

@@ -39,17 +39,13 @@ impl Standing<'_> {
         ensures within { length (open_in self.new.open) ≤ length (open_in self.old.open) + 1 }
         ensures places { places self.new.open ≡ places self.old.open }
     {
-        self.open.close_to(node.parent);
-        if self.open.count() == 0 {
+        if self.open.pass(node) == 0 {
             return false;
         }
-        match node.kind {
-            Kind::Element => {
-                self.open.push(node.id);
-                self.above = Some(0);
-            }
-            _ => self.above = None,
-        }
+        self.above = match node.kind {
+            Kind::Element => Some(0),
+            _ => None,
+        };
         true
     }
 

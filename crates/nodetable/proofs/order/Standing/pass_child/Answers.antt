@@ -1,33 +1,26 @@
-use Rattle.std.proofs.Common.{◌≡◌, ℕ, ◌<◌, true, cond, ltb, List, ◌∷◌, length, Some, None, sym, ap, ◌∙◌, arith, lt-ltb}
-use Rattle.document.specs.Table.{closed_to}
-use Rattle.nodetable.specs.Open.{open_in, places}
-use Rattle.nodetable.proofs.Elements.{child_element, child_other, length_closed}
+use Rattle.std.proofs.Common.{◌≡◌, ◌<◌, length, sym, ap, ◌∙◌, arith}
+use Rattle.document.specs.Table.{closed_to, takes_above}
+use Rattle.nodetable.specs.Open.{open_in}
+use Rattle.nodetable.proofs.Elements.{child_passes, opened_below, length_opened, takes_none}
 use Rattle.nodetable.proofs.order.Standing.pass_child.Goals as goal
+use Rattle.nodetable.proofs.order.Standing.pass_child.Goals.{in-Element, in_default}
 
-pub returns-in-Element : goal.returns-in-Element
-returns-in-Element c =
+pub returns-clause-passes : goal.returns-clause-passes
+returns-clause-passes c =
     let es = open_in c.args.self.now.open in
     let x = c.args.node.now in
-    let kept = open_in c.close_to.new.self in
-    let closed = c.close_to.ensures.open in
-    let fewer = length_closed x.parent es in
-    let some : 0 < length (closed_to x.parent es) = omega (arith, ap length closed, c.count.ensures) in
-    let room : ltb (length kept) (places c.close_to.new.self) ≡ true = lt-ltb _ _ (omega (arith, ap length closed, fewer, c.requires, c.close_to.ensures.places)) in
-    let pushed : open_in c.push.new.self ≡ x.id ∷ closed_to x.parent es = c.push.ensures.open ∙ ap (λ b. cond b (x.id ∷ kept) kept) room ∙ ap (λ (l : List ℕ). x.id ∷ l) closed in
-    record {
-      passes = child_element es x some c.in-Element.is ∙ ap (λ (l : List ℕ). Some (l, Some 0)) (sym pushed);
-      within = omega (arith, ap length pushed, fewer);
-      places = c.push.ensures.places ∙ c.close_to.ensures.places;
-    }
+    let some : 0 < length (closed_to x.parent es) = omega (arith, c.pass.ensures.around, c.if-pass-eq0.false) in
+    let left = c.pass.ensures.open ∙ opened_below x.kind x.id x.parent _ es c.requires in
+    let above : c.match-node.self ≡ takes_above x.kind =
+    elim c.match-node.branch [
+      | in-Element w ↦ w.self-is ∙ ap takes_above (sym w.in-Element.is)
+      | in_default w ↦ w.self-is ∙ sym (takes_none x.kind w.in_default.not-Element)
+    ]
+    in
+    rw (left, above) (child_passes es x some)
 
-pub returns-in_default : goal.returns-in_default
-returns-in_default c =
+pub returns-clause-within : goal.returns-clause-within
+returns-clause-within c =
     let es = open_in c.args.self.now.open in
     let x = c.args.node.now in
-    let closed = c.close_to.ensures.open in
-    let some : 0 < length (closed_to x.parent es) = omega (arith, ap length closed, c.count.ensures) in
-    record {
-      passes = child_other es x some c.in_default.not-Element ∙ ap (λ (l : List ℕ). Some (l, None)) (sym closed);
-      within = omega (arith, ap length closed, length_closed x.parent es);
-      places = c.close_to.ensures.places;
-    }
+    omega (arith, ap length (c.pass.ensures.open ∙ opened_below x.kind x.id x.parent _ es c.requires), length_opened x.kind x.id x.parent es)
