@@ -7,10 +7,10 @@ use Rattle.codec.proofs.Spelled.{some_none, node_back, operation_back}
 use Rattle.reader.specs.Reading.{structure_from, misformed_from, and_some, operations_in, nodes_in}
 use Rattle.reader.specs.Layout.{document_records, list_records}
 
-due_more : (d : ℕ) → eqb (suc d) 0 ≡ false
+pub due_more : (d : ℕ) → eqb (suc d) 0 ≡ false
 due_more d = ne_eqb (suc d) 0 (λ e. absurd (omega arith))
 
-one_less : (d : ℕ) → suc d - 1 ≡ d
+pub one_less : (d : ℕ) → suc d - 1 ≡ d
 one_less d = omega arith
 
 -- where nodes are due, one record on

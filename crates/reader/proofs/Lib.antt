@@ -1,5 +1,6 @@
 pub mod Rows
 pub mod Tests
+pub mod Due
 pub mod Filling
 pub mod Back
 pub mod Accepting

@@ -1,8 +1,10 @@
 // Files into tables. Every test runs over the whole file before the next; a table is written only when all have passed.
-ghost use Rattle.std.specs.Prelude.{◌≡◌, ℕ, ◌+◌, ◌-◌, ◌*◌, ◌/◌, ◌<◌, ◌≤◌, length, None, Ok, MatchResult};
+ghost use Rattle.std.specs.Prelude.{◌≡◌, ℕ, ◌+◌, ◌-◌, ◌*◌, ◌/◌, ◌<◌, ◌≤◌, length, map, None, Ok, MatchResult};
+ghost use Rattle.std.specs.Iterator.{YieldsFirst, item_count};
+ghost use Rattle.codec.specs.Codec.{record_of};
 ghost use Rattle.faults.specs.declared.FileFault.TheVariants.{Misformed};
 ghost use Rattle.reader.specs.Bytes.{records, over};
-ghost use Rattle.reader.specs.Reading.{due_after, ill_built, structure_from, spells, misformed_from, operations_in, nodes_in};
+ghost use Rattle.reader.specs.Reading.{due_after, due_records, ill_built, structure_from, spells, misformed_from, operations_in, nodes_in};
 
 use crate::bytes::raw_records;
 use codec::Record;
@@ -20,6 +22,40 @@ fn due_after(due: usize, found: Record) -> usize
     }
 }
 
+// Records in their order, each with how many nodes are due where it stands, and how many records follow it.
+#[derive(Drop)]
+struct DueRecords<'a> {
+    due: usize,
+    raw: &'a [[u8; 16]],
+}
+
+impl<'a> Iterator for DueRecords<'a> {
+    type Item = (usize, Record, usize);
+
+    ghost next_gives = { YieldsFirst (λ s. due_records s.due (map record_of s.raw.now)) };
+
+    ghost remaining = { item_count (λ s. due_records s.due (map record_of s.raw.now)) };
+
+    fn next(&mut self) -> Option<(usize, Record, usize)> {
+        let (first, rest) = self.raw.split_first()?;
+        let due = self.due;
+        let found = Record::from(*first);
+        self.due = due_after(due, found);
+        self.raw = rest;
+        Some((due, found, rest.len()))
+    }
+}
+
+// The records of a file, where so many nodes come first.
+fn due_records(bytes: &[u8], nodes_first: usize) -> DueRecords<'_>
+    ensures { due_records result.due (map record_of result.raw.now) ≡ due_records nodes_first (records bytes.now) }
+{
+    DueRecords {
+        due: nodes_first,
+        raw: raw_records(bytes),
+    }
+}
+
 // Whether an operation is due, and the record is a node or counts more nodes than follow.
 fn is_ill_built(due: usize, found: Record, follow: usize) -> bool
     ensures { result ≡ ill_built due found follow }
@@ -31,16 +67,7 @@ fn is_ill_built(due: usize, found: Record, follow: usize) -> bool
 pub fn first_ill_built(bytes: &[u8]) -> Option<usize>
     ensures { result ≡ structure_from 0 0 (records bytes.now) }
 {
-    let raw_records = raw_records(bytes);
-    let mut due = 0;
-    for (place, raw) in raw_records.iter().enumerate() {
-        let found = Record::from(*raw);
-        if is_ill_built(due, found, raw_records.len() - place - 1) {
-            return Some(place);
-        }
-        due = due_after(due, found);
-    }
-    None
+    due_records(bytes, 0).position(|(due, found, follow)| is_ill_built(due, found, follow))
 }
 
 // Whether the record is what is due, and well formed.
@@ -58,15 +85,7 @@ fn spells_due(due: usize, found: Record) -> bool
 pub fn first_misformed(bytes: &[u8], nodes_first: usize) -> Option<usize>
     ensures { result ≡ misformed_from nodes_first 0 (records bytes.now) }
 {
-    let mut due = nodes_first;
-    for (place, raw) in raw_records(bytes).iter().enumerate() {
-        let found = Record::from(*raw);
-        if !spells_due(due, found) {
-            return Some(place);
-        }
-        due = due_after(due, found);
-    }
-    None
+    due_records(bytes, nodes_first).position(|(due, found, _)| !spells_due(due, found))
 }
 
 // How many operations there are in a file of well-formed records.
@@ -74,16 +93,7 @@ pub fn count_operations(bytes: &[u8]) -> usize
     requires { misformed_from 0 0 (records bytes.now) ≡ None }
     ensures { result ≡ length (operations_in 0 (records bytes.now)) }
 {
-    let mut due = 0;
-    let mut count = 0;
-    for raw in raw_records(bytes) {
-        let found = Record::from(*raw);
-        if due == 0 {
-            count += 1;
-        }
-        due = due_after(due, found);
-    }
-    count
+    due_records(bytes, 0).filter(|(due, _, _)| *due == 0).count()
 }
 
 // Writes the operations and the nodes of well-formed records over the fronts of the tables.
@@ -94,11 +104,9 @@ pub fn fill(bytes: &[u8], nodes_first: usize, operations: &mut [Operation], node
     ensures operations { operations.new ≡ over (operations_in nodes_first (records bytes.now)) operations.old }
     ensures nodes { nodes.new ≡ over (nodes_in nodes_first (records bytes.now)) nodes.old }
 {
-    let mut due = nodes_first;
     let mut operation_count = 0;
     let mut node_count = 0;
-    for raw in raw_records(bytes) {
-        let found = Record::from(*raw);
+    for (due, found, _) in due_records(bytes, nodes_first) {
         if due == 0 {
             if let Ok(operation) = Operation::try_from(found) {
                 operations[operation_count] = operation;
@@ -108,6 +116,5 @@ pub fn fill(bytes: &[u8], nodes_first: usize, operations: &mut [Operation], node
             nodes[node_count] = node;
             node_count += 1;
         }
-        due = due_after(due, found);
     }
 }

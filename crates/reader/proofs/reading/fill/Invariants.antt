@@ -1,11 +1,12 @@
-use Rattle.std.proofs.Common.{◌≡◌, drop, None}
+use Rattle.std.proofs.Common.{map}
+use Rattle.codec.specs.Codec.{record_of}
 use Rattle.reader.specs.Bytes.{records}
-use Rattle.reader.specs.Reading.{misformed_from, operations_in, nodes_in}
-use Rattle.reader.proofs.Filling.{Filled}
+use Rattle.reader.specs.Reading.{due_records, operations_in, nodes_in}
+use Rattle.reader.proofs.Filling.{Fills}
 use Rattle.reader.proofs.reading.fill.Given as goal
 
-abbrev pub invariant-loop-raw : goal.invariant-loop-raw
-invariant-loop-raw l =
-    (misformed_from l.due l.raw-index (drop l.raw-index (records l.bytes)) ≡ None)
-    × Filled (operations_in l.nodes_first (records l.bytes)) l.initial.operations l.operations l.operation_count (operations_in l.due (drop l.raw-index (records l.bytes)))
-    × Filled (nodes_in l.nodes_first (records l.bytes)) l.initial.nodes l.nodes l.node_count (nodes_in l.due (drop l.raw-index (records l.bytes)))
+abbrev pub invariant-loop-due : goal.invariant-loop-due
+invariant-loop-due l =
+    let rs = records l.bytes in
+    let left = due_records l.due-iterator.due (map record_of l.due-iterator.raw.now) in
+    Fills (operations_in l.nodes_first rs) l.initial.operations l.operations (nodes_in l.nodes_first rs) l.initial.nodes l.nodes l.operation_count l.node_count left

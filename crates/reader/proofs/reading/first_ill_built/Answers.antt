@@ -1,15 +1,21 @@
-use Rattle.std.proofs.Common.{◌≡◌, ◌-◌, true, false, subst, sym, ◌∙◌, arith}
-use Rattle.reader.specs.Reading.{ill_built}
-use Rattle.reader.proofs.Rows.{raw_at}
-use Rattle.reader.proofs.Tests.{structure_here, structure_on}
+use Rattle.std.proofs.Common.{rules, tests, arith, inl, ◌∙◌, map, length, ap}
+use Rattle.std.proofs.lemmas.Iterator.Consumers.{YieldsList-from_first}
+use Rattle.std.proofs.lemmas.Iterator.Search.{position_from_yields_List}
+use Rattle.std.proofs.lemmas.Iterator.Adapters.{position_from-zero}
+use Rattle.codec.specs.Codec.{record_of}
+use Rattle.reader.specs.Bytes.{records}
+use Rattle.reader.specs.Reading.{due_records, ill_built}
+use Rattle.reader.proofs.Rows.{length_records}
+use Rattle.reader.proofs.Due.{length-due_records, structure_of_due}
 use Rattle.reader.proofs.reading.first_ill_built.Goals as goal
 
-pub returns-then-is_ill_built : goal.returns-then-is_ill_built
-returns-then-is_ill_built c =
-    sym (structure_here c.args.bytes.now c.loop-place.place c.from-found.result (omega arith) (raw_at _ c.args.bytes.now c.loop-place.place _ _ c.raw_records-raw_records.ensures.spelt (omega arith) c.from-found.ensures) c.loop-place.due (subst (λ m. ill_built c.loop-place.due c.from-found.result (m - c.loop-place.place - 1) ≡ true) c.raw_records-raw_records.ensures.count (sym c.is_ill_built.ensures ∙ c.if-is_ill_built.true)))
-    ∙ c.loop-place.invariant
+pub position-requires-clause-fits : goal.position-requires-clause-fits
+position-requires-clause-fits c =
+    inl (omega (arith, ap length c.due_records.ensures, length-due_records 0 (records c.args.bytes.now), length_records c.args.bytes.now))
 
-pub loop-place-preserved : goal.loop-place-preserved
-loop-place-preserved c =
-    let e = structure_on c.args.bytes.now c.loop-place.place c.from-found.result (omega arith) (raw_at _ c.args.bytes.now c.loop-place.place _ _ c.raw_records-raw_records.ensures.spelt (omega arith) c.from-found.ensures) c.loop-place.due (subst (λ m. ill_built c.loop-place.due c.from-found.result (m - c.loop-place.place - 1) ≡ false) c.raw_records-raw_records.ensures.count (sym c.is_ill_built.ensures ∙ c.if-is_ill_built.false)) in
-    rw c.due_after-due.ensures (sym e ∙ c.loop-place.invariant)
+pub returns : goal.returns
+returns c =
+    let all = due_records 0 (records c.args.bytes.now) in
+    position_from_yields_List (λ x. ill_built x.0 x.1 x.2) c.position.new.self _ c.position.result c.position.ensures.ran
+    (YieldsList-from_first (λ x. x) (λ s. due_records s.due (map record_of s.raw.now)) all c.due_records.ensures) (λ x b q k. search (rules, tests))
+    ∙ position_from-zero (λ x. ill_built x.0 x.1 x.2) all ∙ structure_of_due 0 0 (records c.args.bytes.now)

@@ -1,14 +1,21 @@
-use Rattle.std.proofs.Common.{sym, ◌∙◌, arith}
-use Rattle.reader.proofs.Rows.{raw_at}
-use Rattle.reader.proofs.Tests.{misformed_here, misformed_on}
+use Rattle.std.proofs.Common.{rules, tests, arith, inl, not, ◌∙◌, map, length, ap}
+use Rattle.std.proofs.lemmas.Iterator.Consumers.{YieldsList-from_first}
+use Rattle.std.proofs.lemmas.Iterator.Search.{position_from_yields_List}
+use Rattle.std.proofs.lemmas.Iterator.Adapters.{position_from-zero}
+use Rattle.codec.specs.Codec.{record_of}
+use Rattle.reader.specs.Bytes.{records}
+use Rattle.reader.specs.Reading.{due_records, spells}
+use Rattle.reader.proofs.Rows.{length_records}
+use Rattle.reader.proofs.Due.{length-due_records, misformed_of_due}
 use Rattle.reader.proofs.reading.first_misformed.Goals as goal
 
-pub returns-then-not-spells_due : goal.returns-then-not-spells_due
-returns-then-not-spells_due c =
-    sym (misformed_here c.args.bytes.now c.loop-place.place c.from-found.result (omega arith) (raw_at _ c.args.bytes.now c.loop-place.place _ _ c.raw_records-raw-items.ensures.spelt (omega arith) c.from-found.ensures) c.loop-place.due (sym c.spells_due.ensures ∙ c.if-not-spells_due.true))
-    ∙ c.loop-place.invariant
+pub position-requires-clause-fits : goal.position-requires-clause-fits
+position-requires-clause-fits c =
+    inl (omega (arith, ap length c.due_records.ensures, length-due_records c.args.nodes_first (records c.args.bytes.now), length_records c.args.bytes.now))
 
-pub loop-place-preserved : goal.loop-place-preserved
-loop-place-preserved c =
-    let e = misformed_on c.args.bytes.now c.loop-place.place c.from-found.result (omega arith) (raw_at _ c.args.bytes.now c.loop-place.place _ _ c.raw_records-raw-items.ensures.spelt (omega arith) c.from-found.ensures) c.loop-place.due c.loop-place.place (sym c.spells_due.ensures ∙ c.if-not-spells_due.false) in
-    rw c.due_after-due.ensures (sym e ∙ c.loop-place.invariant)
+pub returns : goal.returns
+returns c =
+    let all = due_records c.args.nodes_first (records c.args.bytes.now) in
+    position_from_yields_List (λ x. not (spells x.0 x.1)) c.position.new.self _ c.position.result c.position.ensures.ran
+    (YieldsList-from_first (λ x. x) (λ s. due_records s.due (map record_of s.raw.now)) all c.due_records.ensures) (λ x b q k. search (rules, tests))
+    ∙ position_from-zero (λ x. not (spells x.0 x.1)) all ∙ misformed_of_due c.args.nodes_first 0 (records c.args.bytes.now)
