@@ -7,7 +7,8 @@ use Rattle.records.specs.declared.operations.Operation.{Operation}
 use Rattle.codec.proofs.Spelled.{some_none}
 use Rattle.codec.specs.Fields.{node_of, operation_of}
 use Rattle.reader.specs.Bytes.{records}
-use Rattle.reader.specs.Reading.{due_after, due_records, ill_built, structure_from, spells, misformed_from, and_some, operations_in, nodes_in}
+use Rattle.reader.specs.Due.{due_records}
+use Rattle.reader.specs.Reading.{due_after, ill_built, structure_from, spells, misformed_from, and_some, operations_in, nodes_in}
 use Rattle.reader.proofs.Back.{due_more, one_less, misformed_suc, record_step}
 
 pub length-due_records : (due : ℕ) (rs : List Record) → length (due_records due rs) ≡ length rs

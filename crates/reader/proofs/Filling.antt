@@ -7,7 +7,8 @@ use Rattle.codec.specs.declared.spelling.Record.{Record}
 use Rattle.records.specs.declared.nodes.Node.{Node}
 use Rattle.records.specs.declared.operations.Operation.{Operation}
 use Rattle.codec.specs.Fields.{node_of, operation_of}
-use Rattle.reader.specs.Reading.{due_records, spells, misformed_from, operations_in, nodes_in}
+use Rattle.reader.specs.Due.{due_records}
+use Rattle.reader.specs.Reading.{spells, misformed_from, operations_in, nodes_in}
 use Rattle.reader.proofs.Due.{operation_due, node_due, operations_due, nodes_due, all_spell}
 
 -- n elements of `all` stand in `now`, `rest` is to come, and behind them is what `table` held

@@ -11,8 +11,7 @@ use Rattle.reader.specs.Bytes.{records}
 use Rattle.reader.specs.Handed.{end, gives, step_of, Passes}
 use Rattle.reader.specs.Reading.{ill_built, structure_from, misformed_from}
 use Rattle.reader.proofs.Back.{structure_suc, misformed_suc, record_step, built}
-use Rattle.reader.proofs.Rows.{length_records, raw_at}
-use Rattle.reader.proofs.Tests.{next_record, no_record}
+use Rattle.reader.proofs.Rows.{length_records, raw_at, next_record, no_record}
 
 pub step_end : (bs : List ℕ) (k : ℕ) → length bs / 16 ≤ k → step_of bs k ≡ end
 unfolding step_of

@@ -1,5 +1,4 @@
 pub mod Rows
-pub mod Tests
 pub mod Due
 pub mod Filling
 pub mod Back

@@ -1,6 +1,6 @@
 -- The records of a file, by place, and the file of records.
 use Rattle.std.proofs.Common.{◌≡◌, ℕ, zero, suc, ◌+◌, ◌*◌, ◌/◌, ◌%◌, ◌<◌, ◌≤◌, List, [], ◌∷◌, ◌++◌, length, get_or, map, take, drop, sym, refl, ap, ◌∙◌, append_assoc, append-nil, arith, length-append, length-drop}
-use Rattle.std.proofs.lemmas.List.{drop-drop, take-append-drop, get_or-drop, get_or-map, nil_from_length, drop_at, take_at, length-take-le}
+use Rattle.std.proofs.lemmas.List.{drop-drop, take-append-drop, get_or-drop, get_or-map, nil_from_length, drop_at, take_at, length-take-le, drop_more, drop_all}
 use Rattle.codec.specs.declared.spelling.Record.{Record}
 use Rattle.codec.specs.Codec.{record_of, bytes_of}
 use Rattle.codec.proofs.Bytes.{record_back, record_of_front}
@@ -105,3 +105,10 @@ pub raw_at : (raws : List (List ℕ)) (bs : List ℕ) (k : ℕ) (e : List ℕ) (
 raw_at raws bs k e r same h at d =
     let long : length raws ≡ length bs / 16 = sym (length-map raws record_of) ∙ ap length same ∙ length_records bs in
     at ∙ sym (get_or-map record_of raws k e d (omega arith)) ∙ ap (λ rs. get_or rs k d) same
+
+-- the records from a place on begin with the one there
+pub next_record : (bs : List ℕ) (k : ℕ) (r : Record) → k < length bs / 16 → ((d : Record) → r ≡ get_or (records bs) k d) → drop k (records bs) ≡ r ∷ drop (k + 1) (records bs)
+next_record bs k r h e = drop_more (records bs) k r (omega (arith, length_records bs)) ∙ ap (λ x. x ∷ drop (k + 1) (records bs)) (sym (e r))
+
+pub no_record : (bs : List ℕ) (k : ℕ) → length bs / 16 ≤ k → drop k (records bs) ≡ []
+no_record bs k h = drop_all k (records bs) (omega (arith, length_records bs))

@@ -14,11 +14,6 @@ use Rattle.reader.specs.Bytes.{records, over}
 abbrev pub due_after : ℕ → Record → ℕ
 due_after due r = cond (due == 0) r.link (due - 1)
 
--- each record with how many nodes are due where it stands, and how many records follow it
-abbrev pub due_records : ℕ → List Record → List (ℕ × Record × ℕ)
-due_records due [] = []
-due_records due (r ∷ rs) = (due, r, length rs) ∷ due_records (due_after due r) rs
-
 -- an operation is due, and a node stands there or more nodes are counted than records follow
 abbrev pub ill_built : ℕ → Record → ℕ → Bool
 ill_built due r follow = due == 0 && (is_some (kind_of r.tag) || nat_lt follow r.link)

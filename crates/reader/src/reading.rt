@@ -1,10 +1,10 @@
 // Files into tables. Every test runs over the whole file before the next; a table is written only when all have passed.
-ghost use Rattle.std.specs.Prelude.{◌≡◌, ℕ, ◌+◌, ◌-◌, ◌*◌, ◌/◌, ◌<◌, ◌≤◌, length, map, None, Ok, MatchResult};
+ghost use Rattle.std.specs.Prelude.{◌≡◌, ℕ, ◌+◌, ◌-◌, ◌*◌, ◌/◌, ◌<◌, ◌≤◌, length, None, Ok, MatchResult};
 ghost use Rattle.std.specs.Iterator.{YieldsFirst, item_count};
-ghost use Rattle.codec.specs.Codec.{record_of};
 ghost use Rattle.faults.specs.declared.FileFault.TheVariants.{Misformed};
 ghost use Rattle.reader.specs.Bytes.{records, over};
-ghost use Rattle.reader.specs.Reading.{due_after, due_records, ill_built, structure_from, spells, misformed_from, operations_in, nodes_in};
+ghost use Rattle.reader.specs.Due.{due_records, left};
+ghost use Rattle.reader.specs.Reading.{due_after, ill_built, structure_from, spells, misformed_from, operations_in, nodes_in};
 
 use crate::bytes::raw_records;
 use codec::Record;
@@ -32,9 +32,9 @@ struct DueRecords<'a> {
 impl<'a> Iterator for DueRecords<'a> {
     type Item = (usize, Record, usize);
 
-    ghost next_gives = { YieldsFirst (λ s. due_records s.due (map record_of s.raw.now)) };
+    ghost next_gives = { YieldsFirst left };
 
-    ghost remaining = { item_count (λ s. due_records s.due (map record_of s.raw.now)) };
+    ghost remaining = { item_count left };
 
     fn next(&mut self) -> Option<(usize, Record, usize)> {
         let (first, rest) = self.raw.split_first()?;
@@ -48,7 +48,7 @@ impl<'a> Iterator for DueRecords<'a> {
 
 // The records of a file, where so many nodes come first.
 fn due_records(bytes: &[u8], nodes_first: usize) -> DueRecords<'_>
-    ensures { due_records result.due (map record_of result.raw.now) ≡ due_records nodes_first (records bytes.now) }
+    ensures { left result ≡ due_records nodes_first (records bytes.now) }
 {
     DueRecords {
         due: nodes_first,
