@@ -1,6 +1,7 @@
 -- The tests on a file's records, over the records with what is due at each.
 use Rattle.std.proofs.Common.{◌≡◌, ℕ, zero, suc, ◌+◌, ◌-◌, ◌*◌, ◌/◌, ◌<◌, ◌^◌, Bool, true, false, cond, ◌==◌, ◌&&◌, not, List, [], ◌∷◌, length, Some, None, Option, sym, refl, ap, ◌∙◌, arith, eq-eqb, ne_eqb}
-use Rattle.std.specs.List.{filter, filter_map, cons_option, list_all, position_from}
+use Rattle.std.specs.List.{filter, filter_map, cons_option, list_all, position, position_from}
+use Rattle.std.proofs.lemmas.Iterator.Adapters.{position_from-zero}
 use Rattle.codec.specs.declared.spelling.Record.{Record}
 use Rattle.records.specs.declared.nodes.Node.{Node}
 use Rattle.records.specs.declared.operations.Operation.{Operation}
@@ -11,21 +12,27 @@ use Rattle.reader.specs.Due.{due_records}
 use Rattle.reader.specs.Reading.{due_after, ill_built, structure_from, spells, misformed_from, and_some, operations_in, nodes_in}
 use Rattle.reader.proofs.Back.{due_more, one_less, misformed_suc, record_step}
 
-pub length-due_records : (due : ℕ) (rs : List Record) → length (due_records due rs) ≡ length rs
-length-due_records due [] = refl
-length-due_records due (r ∷ rs) = ap suc (length-due_records (due_after due r) rs)
+pub length_due_records : (due : ℕ) (rs : List Record) → length (due_records due rs) ≡ length rs
+length_due_records due [] = refl
+length_due_records due (r ∷ rs) = ap suc (length_due_records (due_after due r) rs)
 
-pub structure_of_due : (due n : ℕ) (rs : List Record) → position_from (λ x. ill_built x.0 x.1 x.2) n (due_records due rs) ≡ structure_from due n rs
-structure_of_due due n [] = refl
-structure_of_due due n (r ∷ rs) = ap (cond (ill_built due r (length rs)) (Some n)) (structure_of_due (due_after due r) (n + 1) rs)
+structure_place : (due n : ℕ) (rs : List Record) → position_from (λ x. ill_built x.0 x.1 x.2) n (due_records due rs) ≡ structure_from due n rs
+structure_place due n [] = refl
+structure_place due n (r ∷ rs) = ap (cond (ill_built due r (length rs)) (Some n)) (structure_place (due_after due r) (n + 1) rs)
+
+pub structure_of_due : (due : ℕ) (rs : List Record) → position (λ x. ill_built x.0 x.1 x.2) (due_records due rs) ≡ structure_from due 0 rs
+structure_of_due due rs = position_from-zero _ (due_records due rs) ∙ structure_place due 0 rs
 
 otherwise : {X : Type 0} (b : Bool) (x y : X) → cond (not b) x y ≡ cond b y x
 otherwise true x y = refl
 otherwise false x y = refl
 
-pub misformed_of_due : (due n : ℕ) (rs : List Record) → position_from (λ x. not (spells x.0 x.1)) n (due_records due rs) ≡ misformed_from due n rs
-misformed_of_due due n [] = refl
-misformed_of_due due n (r ∷ rs) = otherwise (spells due r) (Some n) _ ∙ ap (λ x. cond (spells due r) x (Some n)) (misformed_of_due (due_after due r) (n + 1) rs)
+misformed_place : (due n : ℕ) (rs : List Record) → position_from (λ x. not (spells x.0 x.1)) n (due_records due rs) ≡ misformed_from due n rs
+misformed_place due n [] = refl
+misformed_place due n (r ∷ rs) = otherwise (spells due r) (Some n) _ ∙ ap (λ x. cond (spells due r) x (Some n)) (misformed_place (due_after due r) (n + 1) rs)
+
+pub misformed_of_due : (due : ℕ) (rs : List Record) → position (λ x. not (spells x.0 x.1)) (due_records due rs) ≡ misformed_from due 0 rs
+misformed_of_due due rs = position_from-zero _ (due_records due rs) ∙ misformed_place due 0 rs
 
 -- in well-formed records an operation is where no node is due
 pub operations_of_due : (due n : ℕ) (rs : List Record) → misformed_from due n rs ≡ None → length (filter (λ x. x.0 == 0) (due_records due rs)) ≡ length (operations_in due rs)

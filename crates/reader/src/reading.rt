@@ -47,8 +47,10 @@ impl<'a> Iterator for DueRecords<'a> {
 }
 
 // The records of a file, where so many nodes come first.
+#[tactic(auto, using(crate::proofs::Due::length_due_records, crate::proofs::Rows::length_records))]
 fn due_records(bytes: &[u8], nodes_first: usize) -> DueRecords<'_>
-    ensures { left result ≡ due_records nodes_first (records bytes.now) }
+    ensures records { left result ≡ due_records nodes_first (records bytes.now) }
+    ensures count { length (left result) ≡ length bytes.now / 16 }
 {
     DueRecords {
         due: nodes_first,

@@ -7,7 +7,7 @@ use Rattle.reader.proofs.reading.fill.Goals as goal
 pub loop-due-init : goal.loop-due-init
 loop-due-init c =
     rw c.into_iter-due-iterator.ensures.into_iter_gives
-    (nothing_filled c.args.nodes_first (records c.args.bytes.now) c.due_records-due-items.ensures c.requires.formed c.requires.operations_fit c.requires.nodes_fit)
+    (nothing_filled c.args.nodes_first (records c.args.bytes.now) c.due_records-due-items.ensures.records c.requires.formed c.requires.operations_fit c.requires.nodes_fit)
 
 pub bounds-operations-operation_count : goal.bounds-operations-operation_count
 bounds-operations-operation_count c = (operation_written c.loop-due.invariant c.in-Some.ensures.steps c.in-Ok.operation c.if-due-eq0.true (spelt_ok (operation_of c.in-Some.found) c.try_from.ensures c.in-Ok.is)).0
