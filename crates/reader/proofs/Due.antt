@@ -1,5 +1,5 @@
 -- The tests on a file's records, over the records with what is due at each.
-use Rattle.std.proofs.Common.{◌≡◌, ℕ, zero, suc, ◌+◌, ◌-◌, ◌*◌, ◌/◌, ◌<◌, ◌^◌, Bool, true, false, cond, ◌==◌, ◌&&◌, not, List, [], ◌∷◌, length, Some, None, Option, sym, refl, ap, ◌∙◌, arith, eq-eqb, ne_eqb}
+use Rattle.std.proofs.Common.{◌≡◌, ℕ, zero, suc, ◌+◌, ◌-◌, Bool, true, false, cond, ◌==◌, ◌&&◌, not, List, [], ◌∷◌, length, Some, None, Option, sym, refl, ap, ◌∙◌}
 use Rattle.std.specs.List.{filter, filter_map, cons_option, list_all, position, position_from}
 use Rattle.std.proofs.lemmas.Iterator.Adapters.{position_from-zero}
 use Rattle.codec.specs.declared.spelling.Record.{Record}
@@ -7,7 +7,6 @@ use Rattle.records.specs.declared.nodes.Node.{Node}
 use Rattle.records.specs.declared.operations.Operation.{Operation}
 use Rattle.codec.proofs.Spelled.{some_none}
 use Rattle.codec.specs.Fields.{node_of, operation_of}
-use Rattle.reader.specs.Bytes.{records}
 use Rattle.reader.specs.Due.{due_records}
 use Rattle.reader.specs.Reading.{due_after, ill_built, structure_from, spells, misformed_from, and_some, operations_in, nodes_in}
 use Rattle.reader.proofs.Back.{due_more, one_less, misformed_suc, record_step}

@@ -59,10 +59,10 @@ pub record Fills (all_operations operations now_operations : List Operation) (al
 pub nothing_filled : {operations : List Operation} {nodes : List Node} {left : List (ℕ × Record × ℕ)} (due : ℕ) (rs : List Record) → left ≡ due_records due rs → misformed_from due 0 rs ≡ None
     → length (operations_in due rs) ≤ length operations → length (nodes_in due rs) ≤ length nodes → Fills (operations_in due rs) operations operations (nodes_in due rs) nodes nodes 0 0 left
 nothing_filled due rs e m fit fits = rw e (record {
-      formed = all_spell due 0 rs m;
-      filled_operations = rw (operations_due due rs) (record { long = refl; front = refl; behind = refl; room = omega (arith, fit) });
-      filled_nodes = rw (nodes_due due rs) (record { long = refl; front = refl; behind = refl; room = omega (arith, fits) });
-    })
+  formed = all_spell due 0 rs m;
+  filled_operations = rw (operations_due due rs) (record { long = refl; front = refl; behind = refl; room = omega (arith, fit) });
+  filled_nodes = rw (nodes_due due rs) (record { long = refl; front = refl; behind = refl; room = omega (arith, fits) });
+})
 
 module _ {all_operations operations now_operations : List Operation} {all_nodes nodes now_nodes : List Node} {i j : ℕ} {left rest : List (ℕ × Record × ℕ)} {due follow : ℕ} {r : Record} (f : Fills all_operations operations now_operations all_nodes nodes now_nodes i j left) (step : left ≡ (due, r, follow) ∷ rest) where
   here : Fills all_operations operations now_operations all_nodes nodes now_nodes i j ((due, r, follow) ∷ rest)

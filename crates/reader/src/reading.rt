@@ -1,14 +1,12 @@
 // Files into tables. Every test runs over the whole file before the next; a table is written only when all have passed.
-ghost use Rattle.std.specs.Prelude.{◌≡◌, ℕ, ◌+◌, ◌-◌, ◌*◌, ◌/◌, ◌<◌, ◌≤◌, length, None, Ok, MatchResult};
+ghost use Rattle.std.specs.Prelude.{◌≡◌, ◌/◌, ◌≤◌, length, None};
 ghost use Rattle.std.specs.Iterator.{YieldsFirst, item_count};
-ghost use Rattle.faults.specs.declared.FileFault.TheVariants.{Misformed};
 ghost use Rattle.reader.specs.Bytes.{records, over};
 ghost use Rattle.reader.specs.Due.{due_records, left};
 ghost use Rattle.reader.specs.Reading.{due_after, ill_built, structure_from, spells, misformed_from, operations_in, nodes_in};
 
 use crate::bytes::raw_records;
 use codec::Record;
-use faults::FileFault;
 use records::{Kind, Node, Operation};
 
 // How many nodes are due behind a record.
@@ -95,7 +93,9 @@ pub fn count_operations(bytes: &[u8]) -> usize
     requires { misformed_from 0 0 (records bytes.now) ≡ None }
     ensures { result ≡ length (operations_in 0 (records bytes.now)) }
 {
-    due_records(bytes, 0).filter(|(due, _, _)| *due == 0).count()
+    due_records(bytes, 0)
+        .filter(|(due, _, _)| *due == 0)
+        .count()
 }
 
 // Writes the operations and the nodes of well-formed records over the fronts of the tables.
