@@ -18,25 +18,18 @@ pub record Filled {X : Type 0} (all table now' : List X) (n : ℕ) (rest : List 
   pub behind : drop n now' ≡ drop n table
   pub room : n + length rest ≤ length table
 
-pub filled_more : {X : Type 0} (all table now' : List X) (n : ℕ) (x : X) (rest : List X) → Filled all table now' n (x ∷ rest) → Filled all table (set now' n x) (n + 1) rest
-filled_more all table now' n x rest f =
-    let room : n + suc (length rest) ≤ length table = f.room in
-    let lt : n < length now' = rw f.long (omega arith) in
+-- one turn of a loop that fills: the next element is written
+pub filled_turn : {X : Type 0} {all table now' : List X} {n : ℕ} {x : X} {rest later : List X} → rest ≡ x ∷ later → Filled all table now' n rest → Filled all table (set now' n x) (n + 1) later
+filled_turn {X} {all} {table} {now'} {n} {x} {rest} {later} e f =
+    let g : Filled all table now' n (x ∷ later) = rw e at f in
+    let room : n + suc (length later) ≤ length table = g.room in
+    let lt : n < length now' = rw g.long (omega arith) in
     record {
-      long = simp length-set f.long;
-      front = ap (λ l. l ++ rest) (take_more_set now' n x lt) ∙ append_assoc (take n now') (x ∷ []) rest ∙ f.front;
-      behind = drop-set-lt (n + 1) now' n x (omega arith) ∙ sym (drop-drop 1 n now') ∙ ap (drop 1) f.behind ∙ drop-drop 1 n table;
+      long = simp length-set g.long;
+      front = ap (λ l. l ++ later) (take_more_set now' n x lt) ∙ append_assoc (take n now') (x ∷ []) later ∙ g.front;
+      behind = drop-set-lt (n + 1) now' n x (omega arith) ∙ sym (drop-drop 1 n now') ∙ ap (drop 1) g.behind ∙ drop-drop 1 n table;
       room = omega arith;
     }
-
--- one turn of a loop that fills: an element is written, or none
-pub filled_turn : {X : Type 0} {all table now' next : List X} {n m : ℕ} {x : X} {rest later : List X}
-    → next ≡ set now' n x → m ≡ n + 1 → rest ≡ x ∷ later → Filled all table now' n rest → Filled all table next m later
-filled_turn {X} {all} {table} {now'} {next} {n} {m} {x} {rest} {later} p q e f = rw (p, q) (filled_more all table now' n x later (rw e at f))
-
-pub filled_idle : {X : Type 0} {all table now' next : List X} {n m : ℕ} {rest later : List X}
-    → next ≡ now' → m ≡ n → rest ≡ later → Filled all table now' n rest → Filled all table next m later
-filled_idle p q e f = rw (p, q, ← e) f
 
 -- while an element is to come there is room for it
 pub filled_room : {X : Type 0} {all table now' : List X} {n : ℕ} {x : X} {rest later : List X} → rest ≡ x ∷ later → Filled all table now' n rest → n < length now'
@@ -81,11 +74,11 @@ module _ {all_operations operations now_operations : List Operation} {all_nodes 
   operation_written o z e =
       let p : filter_map operation_due ((due, r, follow) ∷ rest) ≡ o ∷ filter_map operation_due rest = rw (z, e) refl in
       let q : filter_map node_due ((due, r, follow) ∷ rest) ≡ filter_map node_due rest = rw z refl in
-      (filled_room p here.filled_operations, record { formed = spelt.1; filled_operations = filled_turn refl refl p here.filled_operations; filled_nodes = filled_idle refl refl q here.filled_nodes })
+      (filled_room p here.filled_operations, record { formed = spelt.1; filled_operations = filled_turn p here.filled_operations; filled_nodes = rw (← q) here.filled_nodes })
 
   pub node_written : (x : Node) → (due ≡ 0 → ⊥) → node_of r ≡ Some x → (j < length now_nodes) × Fills all_operations operations now_operations all_nodes nodes (set now_nodes j x) i (j + 1) rest
   node_written x z e =
       let w = ne_eqb due 0 z in
       let p : filter_map operation_due ((due, r, follow) ∷ rest) ≡ filter_map operation_due rest = rw w refl in
       let q : filter_map node_due ((due, r, follow) ∷ rest) ≡ x ∷ filter_map node_due rest = rw (w, e) refl in
-      (filled_room q here.filled_nodes, record { formed = spelt.1; filled_operations = filled_idle refl refl p here.filled_operations; filled_nodes = filled_turn refl refl q here.filled_nodes })
+      (filled_room q here.filled_nodes, record { formed = spelt.1; filled_operations = rw (← p) here.filled_operations; filled_nodes = filled_turn q here.filled_nodes })

@@ -61,7 +61,6 @@ pub file_of-++ : (xs ys : List Record) → file_of (xs ++ ys) ≡ file_of xs ++ 
 file_of-++ [] ys = refl
 file_of-++ (x ∷ xs) ys = rw (file_of-++ xs ys) (sym (append_assoc (bytes_of x) (file_of xs) (file_of ys)))
 
--- what reading finds at the front
 -- a patch right behind a patch is one patch
 pub patch_patch : {X : Type 0} (table xs ys : List X) (at : ℕ) → at + length xs ≤ length table → patched (patched table at xs) (at + length xs) ys ≡ patched table at (xs ++ ys)
 patch_patch table xs ys at h =
