@@ -27,10 +27,10 @@ use Rattle.linked.specs.declared.row.Siblings.TheVariants.{Children, Attributes}
 use Rattle.linked.specs.declared.linked_store.LinkedStore.{LinkedStore}
 use Rattle.linked.specs.Rows.{seen, row, row_of, with_record, row_among, siblings_of}
 use Rattle.linked.specs.Tables.{Lookup, shows, changed, linked_in, linked_out}
-use Rattle.linked.specs.Stores.{Stores, rows_of}
+use Rattle.linked.specs.Stores.{Holds, rows_of}
 use Rattle.linked.specs.Places.{neighbours, stands_behind}
 use Rattle.linked.specs.Document.{document, limit_of}
-use Rattle.linked.proofs.Holding.{holds}
+use Rattle.linked.proofs.Holding.{holds, what_shows, what_holds}
 use Rattle.linked.proofs.Putting.{put_shown}
 use Rattle.linked.proofs.Taking.{take_shown}
 
@@ -77,11 +77,11 @@ among_node Children n l m = refl
 among_node Attributes n l m = refl
 
 module _ (s : LinkedStore) (n : Node) (l : ℕ) (ok : put_says (limit_of s) (document s) n l ≡ Ok tt) where
-  has_room : Stores s.table s.root (document s) → size (document s) < limit_of s
+  has_room : Holds s.table s.root (document s) → size (document s) < limit_of s
   has_room h =
       let a = puts.accepted (limit_of s) (document s) n l ok in
-      let w = h.shown.1.within in
-      let c = h.shown.0 in
+      let w = h.shows.within in
+      let c = h.counted in
       let e = s.table.index.ok.0 in
       go (cases_lt (size (document s)) (limit_of s)) a (omega arith)
     where
@@ -90,7 +90,7 @@ module _ (s : LinkedStore) (n : Node) (l : ℕ) (ok : put_says (limit_of s) (doc
       go (inl h) a w = h
       go (inr h) a w = absurd (a.room_left (omega arith))
 
-  same : Stores s.table s.root (document s)
+  same : Holds s.table s.root (document s)
       → (among : Siblings) → among ≡ siblings_of n.kind → (pair : ℕ × ℕ) → pair ≡ neighbours (document s) among n l → (w : Row) → w ≡ row_among among n l pair.1
       → (u : ℕ) → linked_in among pair.0 w (rows_of (document s)) u ≡ rows_of (put_leaves (limit_of s) (document s) n l) u
   same h among ea pair ep w ew u =
@@ -102,19 +102,17 @@ module _ (s : LinkedStore) (n : Node) (l : ℕ) (ok : put_says (limit_of s) (doc
   pub put_stored : (t : Table) (among : Siblings) (pair : ℕ × ℕ) (w : Row) (root : ℕ)
       → among ≡ siblings_of n.kind → pair ≡ neighbours (document s) among n l → w ≡ row_among among n l pair.1 → root ≡ cond (eqb n.parent 0) n.id s.root
       → ((m : ℕ) (look : Lookup) → shows s.table m look → look w.node.id ≡ None → m < limit_of s → shows t (m + 1) (linked_in among pair.0 w look))
-      → ∥ Stores t root (put_leaves (limit_of s) (document s) n l) ∥₁
+      → ∥ Holds t root (put_leaves (limit_of s) (document s) n l) ∥₁
   put_stored t among pair w root ea ep ew er E = ∥∥₁_map (holds s) (λ h.
       let a = puts.accepted (limit_of s) (document s) n l ok in
       let id : w.node.id ≡ n.id = ap (λ (x : Row). x.node.id) ew ∙ ap (λ (x : Node). x.id) (among_node among n l pair.1) in
       let none : rows_of (document s) w.node.id ≡ None = ap (rows_of (document s)) id ∙ ap (option_map row_of) (absent n.id 0 0 (document s) a.new) in
       let leaves = puts.leaves_accepted (limit_of s) (document s) n l ok in
-      let after = E (size (document s)) (rows_of (document s)) h.shown none (has_room h) in
+      let after = E (size (document s)) (rows_of (document s)) (what_shows s.table s.root (document s) h) none (has_room h) in
       let grown = puts.put_size (limit_of s) (document s) n l h.kept a in
-      record {
-        kept = subst Kept (sym leaves) (puts.put_kept (limit_of s) (document s) n l h.kept a);
-        rooted = er ∙ ap (λ (r : ℕ). cond (eqb n.parent 0) n.id r) h.rooted ∙ sym (ap first_of leaves ∙ put_root (document s) n l);
-        shown = shown_as t _ _ (linked_in among pair.0 w (rows_of (document s))) (rows_of (put_leaves (limit_of s) (document s) n l)) (sym grown ∙ ap size (sym leaves)) (same h among ea pair ep w ew) after;
-      })
+      what_holds t root (put_leaves (limit_of s) (document s) n l) (subst Kept (sym leaves) (puts.put_kept (limit_of s) (document s) n l h.kept a))
+      (er ∙ ap (λ (r : ℕ). cond (eqb n.parent 0) n.id r) h.rooted ∙ sym (ap first_of leaves ∙ put_root (document s) n l))
+      (shown_as t _ _ (linked_in among pair.0 w (rows_of (document s))) (rows_of (put_leaves (limit_of s) (document s) n l)) (sym grown ∙ ap size (sym leaves)) (same h among ea pair ep w ew) after))
 
 -- ---- a node taken out
 -- without its root a document is nothing; without another node it keeps its root
@@ -152,18 +150,16 @@ module _ (s : LinkedStore) (w : Row) (ok : take_says (document s) w.node.id ≡ 
   pub take_stored : (t : Table) (among : Siblings) (before root : ℕ)
       → among ≡ siblings_of w.node.kind → before ≡ stands_behind (document s) among w → root ≡ cond (eqb w.node.parent 0) 0 s.root
       → ((n : ℕ) (look : Lookup) → shows s.table n look → look w.node.id ≡ Some w → shows t (n - 1) (linked_out among before w look))
-      → ∥ Stores t root (take_leaves (document s) w.node.id) ∥₁
+      → ∥ Holds t root (take_leaves (document s) w.node.id) ∥₁
   take_stored t among before root ea eb er E = ∥∥₁_map (holds s) (λ h.
-      let after = E (size (document s)) (rows_of (document s)) h.shown (seen_again w (view (document s) w.node.id) at) in
+      let after = E (size (document s)) (rows_of (document s)) (what_shows s.table s.root (document s) h) (seen_again w (view (document s) w.node.id) at) in
       let leaves = takes.leaves_accepted (document s) w.node.id ok in
       let fewer = take_size (document s) w.node.id h.kept ok in
-      record {
-        kept = (takes.take_keeps (size (document s)) (document s) w.node.id h.kept (omega arith)).0;
-        rooted = er ∙ ap (λ (r : ℕ). cond (eqb w.node.parent 0) 0 r) h.rooted ∙ sym (ap first_of leaves ∙ take_root (document s) w.node.id (seen w) h.kept at);
-        shown = shown_as t (size (document s) - 1) _ (linked_out among before w (rows_of (document s))) (rows_of (take_leaves (document s) w.node.id)) (omega (arith, fewer)) (same h among ea before eb) after;
-      })
+      what_holds t root (take_leaves (document s) w.node.id) (takes.take_keeps (size (document s)) (document s) w.node.id h.kept (omega arith)).0
+      (er ∙ ap (λ (r : ℕ). cond (eqb w.node.parent 0) 0 r) h.rooted ∙ sym (ap first_of leaves ∙ take_root (document s) w.node.id (seen w) h.kept at))
+      (shown_as t (size (document s) - 1) _ (linked_out among before w (rows_of (document s))) (rows_of (take_leaves (document s) w.node.id)) (omega (arith, fewer)) (same h among ea before eb) after))
     where
-      same : Stores s.table s.root (document s)
+      same : Holds s.table s.root (document s)
           → (among : Siblings) → among ≡ siblings_of w.node.kind → (before : ℕ) → before ≡ stands_behind (document s) among w
           → (u : ℕ) → linked_out among before w (rows_of (document s)) u ≡ rows_of (take_leaves (document s) w.node.id) u
       same h among ea before eb u =
@@ -213,23 +209,20 @@ with_value m x = record { id = x.id; parent = x.parent; kind = x.kind; name = x.
 module _ (s : LinkedStore) (id : ℕ) (t : Table) where
   edit_stored : (f g : Node → Node) (d' : Forest) → ((u : ℕ) → view d' u ≡ option_map (reshown f) (view (document s) u)) → ((y : Node) → f y ≡ cond (eqb y.id id) (g y) y)
       → (Kept (document s) → Kept d' × (size d' ≡ size (document s))) → first_of d' ≡ first_of (document s)
-      → ((n : ℕ) (look : Lookup) → shows s.table n look → shows t n (changed id (with_record g) look)) → ∥ Stores t s.root d' ∥₁
+      → ((n : ℕ) (look : Lookup) → shows s.table n look → shows t n (changed id (with_record g) look)) → ∥ Holds t s.root d' ∥₁
   edit_stored f g d' re is kept first E = ∥∥₁_map (holds s) (λ h.
       let k = kept h.kept in
-      record {
-        kept = k.0;
-        rooted = h.rooted ∙ sym first;
-        shown = shown_as t _ _ (changed id (with_record g) (rows_of (document s))) (rows_of d') (sym k.1) (rewritten (document s) d' id f g re is) (E (size (document s)) (rows_of (document s)) h.shown);
-      })
+      what_holds t s.root d' k.0 (h.rooted ∙ sym first)
+      (shown_as t _ _ (changed id (with_record g) (rows_of (document s))) (rows_of d') (sym k.1) (rewritten (document s) d' id f g re is) (E (size (document s)) (rows_of (document s)) (what_shows s.table s.root (document s) h))))
 
   pub rename_stored : (m : ℕ) → rename_says (document s) id m ≡ Ok tt → ((n : ℕ) (look : Lookup) → shows s.table n look → shows t n (changed id (with_record (with_name m)) look))
-      → ∥ Stores t s.root (rename_leaves (document s) id m) ∥₁
+      → ∥ Holds t s.root (rename_leaves (document s) id m) ∥₁
   rename_stored m ok =
       edit_stored (renamed_row id m) (with_name m) (rename_leaves (document s) id m) (rename_reshows (document s) id m ok) (λ y. refl) (rename_keeps (document s) id m)
       (ap (λ (r : Answer). first_of (after r (edited id (named m) (document s)) (document s))) ok ∙ first_edited id (named m) (λ r. refl) (document s))
 
   pub value_stored : (m : ℕ) → set_value_says (document s) id ≡ Ok tt → ((n : ℕ) (look : Lookup) → shows s.table n look → shows t n (changed id (with_record (with_value m)) look))
-      → ∥ Stores t s.root (set_value_leaves (document s) id m) ∥₁
+      → ∥ Holds t s.root (set_value_leaves (document s) id m) ∥₁
   value_stored m ok =
       edit_stored (revalued_row id m) (with_value m) (set_value_leaves (document s) id m) (set_value_reshows (document s) id m ok) (λ y. refl) (set_value_keeps (document s) id m)
       (ap (λ (r : Answer). first_of (after r (edited id (valued m) (document s)) (document s))) ok ∙ first_edited id (valued m) (λ r. refl) (document s))

@@ -4,10 +4,10 @@ use Rattle.document.specs.Tree.{Forest}
 use Rattle.store.specs.Meaning.{meant}
 use Rattle.linked.specs.declared.linked_store.LinkedStore.{LinkedStore}
 use Rattle.linked.specs.Tables.{room_of}
-use Rattle.linked.specs.Stores.{Stores, one_document}
+use Rattle.linked.specs.Stores.{Holds, one_held}
 
 abbrev pub document : LinkedStore → Forest
-document s = meant (Stores s.table s.root) (one_document s.table s.root) s.stands
+document s = meant (Holds s.table s.root) (one_held s.table s.root) s.stands
 
 abbrev pub limit_of : LinkedStore → ℕ
 limit_of s = room_of s.table

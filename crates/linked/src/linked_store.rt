@@ -1,6 +1,6 @@
 // The store: a table of rows, and the root.
 ghost use Rattle.document.specs.Tree.{Forest};
-ghost use Rattle.linked.specs.Stores.{Stores};
+ghost use Rattle.linked.specs.Stores.{Holds};
 
 use crate::table::Table;
 
@@ -12,5 +12,5 @@ pub mod writing;
 pub struct LinkedStore {
     table: Table,
     root: u32,
-    ghost stands: { ∥ ((d : Forest) × Stores table root d) ∥₁ },
+    ghost stands: { ∥ ((d : Forest) × Holds table root d) ∥₁ },
 }
