@@ -36,6 +36,7 @@ impl Table {
     fn row_number(&self, id: u32) -> Option<usize>
         ensures { RowFound self.now id result }
     {
+        // In a table that shows rows each entry's row is one of them: the guard turns no row away.
         match row_of(&self.index, self.used, id) {
             Some(at) if at < self.rows.len() => Some(at),
             _ => None,

@@ -24,14 +24,17 @@ impl Table {
         ensures room { room_of self.new ≡ room_of self.old }
         ensures shows { (n : ℕ) (look : Lookup) → shows self.old n look → look row.node.id ≡ None → n < room_of self.old → shows self.new (n + 1) (with_row row.node.id row look) }
     {
+        // Who links a row in has asked for room: this never returns early for a store.
         if self.used >= self.index.len() {
             return;
         }
         let free = self.index[self.used].row;
+        // In a table that shows rows each entry's row is one of them, so that the row is always put down.
         if free < self.rows.len() {
             self.rows[free] = row;
         }
         let id = row.node.id;
+        // `used` is below the length of the index: a place is found, and which one nobody asks.
         let _ = insert(&mut self.index, self.used, RowOf { id, row: free });
         self.used += 1;
     }
@@ -41,6 +44,7 @@ impl Table {
         ensures room { room_of self.new ≡ room_of self.old }
         ensures shows { (n : ℕ) (look : Lookup) (w : RowType) → shows self.old n look → look id ≡ Some w → shows self.new (n - 1) (without_row id look) }
     {
+        // A node with a row has an entry, and an entry that is found can be removed: what is promised holds in here.
         if let Some(at) = place_of(&self.index, self.used, id) {
             if let Some(entry) = remove(&mut self.index, self.used, at) {
                 self.used -= 1;
