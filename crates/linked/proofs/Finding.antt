@@ -1,5 +1,5 @@
 -- What an index and its rows show: one look-up, and one row changed.
-use Rattle.std.proofs.Common.{◌≡◌, ℕ, ◌<◌, Bool, true, false, cond, eqb, ◌≢◌, ◌⊎◌, List, length, get_or, set, Some, None, Option, sym, refl, ap, ◌∙◌, subst, inl, inr, arith, length-set, get_or-set_other, get_or-set_same}
+use Rattle.std.proofs.Common.{◌≡◌, ℕ, ◌<◌, ◌≤◌, Bool, true, false, cond, eqb, ◌≢◌, ◌⊎◌, List, length, get_or, set, Some, None, Option, sym, refl, ap, ◌∙◌, subst, inl, inr, arith, length-set, get_or-set_other, get_or-set_same}
 use Rattle.std.specs.Option.{option_map}
 use Rattle.std.proofs.lemmas.Bool.{eq-eqb, ne_eqb, eqb-true, cases_eq, cond-true, cond-false}
 use Rattle.ordered.specs.declared.entries.RowOf.{RowOf}
@@ -12,6 +12,12 @@ use Rattle.linked.specs.Tables.{Lookup, Shows, changed, led}
 abbrev pub no_entry : RowOf
 no_entry = record { id = 0; row = 0 }
 
+-- a row that is found is one of the rows
+pub found_inside : (ix : List RowOf) (n m : ℕ) → n ≤ length ix → ((k : ℕ) (e : RowOf) → k < length ix → (get_or ix k e).row < m) → (id r : ℕ) → LookedUp ix n id (Some r) → r < m
+found_inside ix n m within inside id r h =
+    let e = ap (λ (x : RowOf). x.row) (h.2 no_entry) in
+    omega (arith, inside h.0 no_entry (omega (arith, h.1)))
+
 module _ (ix : List RowOf) (rows : List Row) (n : ℕ) (look : Lookup) (s : Shows ix rows n look) where
   pub none_shown : (id : ℕ) → LookedUp ix n id None → look id ≡ None
   none_shown id h = go (look id) refl
@@ -20,11 +26,8 @@ module _ (ix : List RowOf) (rows : List Row) (n : ℕ) (look : Lookup) (s : Show
       go None e = e
       go (Some w) e = let k = s.every id w e in absurd (h k.0 no_entry k.1 (k.2 no_entry))
 
-  pub row_inside : (id r : ℕ) → LookedUp ix n id (Some r) → r < length rows
-  row_inside id r h =
-      let w = s.within in
-      let e = ap (λ (x : RowOf). x.row) (h.2 no_entry) in
-      omega (arith, s.inside h.0 no_entry (omega (arith, h.1)))
+  row_inside : (id r : ℕ) → LookedUp ix n id (Some r) → r < length rows
+  row_inside = found_inside ix n (length rows) s.within s.inside
 
   pub row_shown : (id r : ℕ) (w : Row) → LookedUp ix n id (Some r) → look id ≡ Some (get_or rows r w)
   row_shown id r w h =

@@ -34,8 +34,8 @@ shows t n look = (t.used ≡ n) × Shows (vec_items t.index) (vec_items t.rows) 
 
 -- What a search for the row of a node answers
 abbrev pub RowFound : Table → ℕ → Option ℕ → Type 0
-RowFound t id None = (n : ℕ) (look : Lookup) → shows t n look → look id ≡ None
-RowFound t id (Some r) = (r < length (vec_items t.rows)) × ((n : ℕ) (look : Lookup) → shows t n look → LookedUp (vec_items t.index) t.used id (Some r))
+RowFound t id None = LookedUp (vec_items t.index) t.used id None
+RowFound t id (Some r) = (r < length (vec_items t.rows)) × LookedUp (vec_items t.index) t.used id (Some r)
 
 -- the function that a closure computes, by what its calls return
 abbrev pub Computes : (Row → Row → Type 0) → (Row → Row) → Type 0

@@ -29,10 +29,7 @@ impl Table {
             return;
         }
         let free = self.index[self.used].row;
-        // In a table that shows rows each entry's row is one of them, so that the row is always put down.
-        if free < self.rows.len() {
-            self.rows[free] = row;
-        }
+        self.rows[free] = row;
         let id = row.node.id;
         // `used` is below the length of the index: a place is found, and which one nobody asks.
         let _ = insert(&mut self.index, self.used, RowOf { id, row: free });

@@ -1,11 +1,13 @@
-use Rattle.std.proofs.Common.{arith}
-use Rattle.linked.proofs.Finding.{none_shown, row_inside}
+use Rattle.std.proofs.Common.{ℕ, length, vec_items, Some, None, Option}
+use Rattle.ordered.specs.Entries.{LookedUp}
+use Rattle.linked.specs.declared.table.Table.{Table}
+use Rattle.linked.specs.Tables.{RowFound}
+use Rattle.linked.proofs.Finding.{found_inside}
 use Rattle.linked.proofs.table.Table.row_number.Goals as goal
 
-pub returns-in_default : goal.returns-in_default
-returns-in_default c n look s =
-    let h = row_inside _ _ _ look s.1 c.args.id c.in-Some.at ((rw c.deref.ensures.value at c.in-Some.ensures) s.1.within s.1.ascending) in
-    absurd (omega (arith, h, c.args.self.now.rows.ok.0))
+found : (t : Table) (id : ℕ) (o : Option ℕ) → LookedUp (vec_items t.index) t.used id o → RowFound t id o
+found t id None h = h
+found t id (Some r) h = (found_inside (vec_items t.index) t.used (length (vec_items t.rows)) t.within t.inside id r h, h)
 
-pub returns-in_default-2 : goal.returns-in_default-2
-returns-in_default-2 c n look s = none_shown _ _ _ look s.1 c.args.id ((rw c.deref.ensures.value at c.in_default.ensures) s.1.within s.1.ascending)
+pub returns : goal.returns
+returns c = found c.args.self.now c.args.id c.row_of.result ((rw c.deref.ensures.value at c.row_of.ensures) c.args.self.now.within c.args.self.now.ascending)
