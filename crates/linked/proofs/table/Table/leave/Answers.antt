@@ -1,10 +1,26 @@
-use Rattle.std.proofs.Common.{◌-◌, List, sym, ◌∙◌, subst, set, vec_items, arith}
+use Rattle.std.proofs.Common.{◌-◌, List, length-set, sym, ◌∙◌, subst, set, vec_items, arith}
 use Rattle.std.proofs.lemmas.List.{with_items_is}
 use Rattle.ordered.specs.declared.entries.RowOf.{RowOf}
 use Rattle.linked.specs.Tables.{Shows, without_row}
 use Rattle.linked.proofs.Finding.{no_entry}
-use Rattle.linked.proofs.Moving.{left, ascending_before}
+use Rattle.linked.proofs.Moving.{left, lowered, stood_down, still_inside, ascending_before}
 use Rattle.linked.proofs.table.Table.leave.Goals as goal
+
+pub invariant_of-self : goal.invariant_of-self
+invariant_of-self c =
+    let me = c.args.self.now in
+    let x = c.in-Some-remove.entry in
+    let ys = c.remove.new.table in
+    let m = rw c.deref_mut.ensures.value at c.in-Some-remove.ensures.moves in
+    let o = (rw c.deref_mut.ensures.value at c.in-Some-remove.ensures.order) me.ascending in
+    let index = with_items_is me.index ys (c.remove.auto.table ∙ c.deref_mut.ensures.len) in
+    let l = m.3.long in
+    let z = length-set ys (me.used - 1) x in
+    record {
+      within = rw index (omega (arith, z, m.1));
+      ascending = rw index (ascending_before ys (me.used - 1) (me.used - 1) x (omega arith) o);
+      inside = rw index (λ k e h. still_inside (lowered c.in-Some.at me.used) _ _ _ (stood_down _ ys c.in-Some.at me.used x m.3 m.2 m.0 m.1) me.inside k e (omega (arith, z)));
+    }
 
 pub returns-in-Some-remove-clause-shows : goal.returns-in-Some-remove-clause-shows
 returns-in-Some-remove-clause-shows c n look w s e =
