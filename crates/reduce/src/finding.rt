@@ -14,7 +14,7 @@ use ordered::find;
 use records::{Code, Operation};
 
 impl Lookup<'_> {
-    // The place of the first entry of a key, if there is one.
+    // The place of the first entry of a key, or where it would stand.
     fn place_of(&self, key: Key) -> usize
         ensures { Begins key.target key.code self.now.operations.now self.now.entries.now result }
     {

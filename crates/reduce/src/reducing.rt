@@ -100,12 +100,7 @@ fn write_as_far<R: Reading>(
 {
     let mut tables = Tables::unused(operations, nodes);
     reduce_all(store, list, &mut tables);
-    let Tables {
-        operations: _,
-        nodes: _,
-        used,
-    } = tables;
-    used
+    tables.used
 }
 
 // Writes the reduced list of a list that suits the document; tables that are too short are left as they are.

@@ -5,7 +5,7 @@ ghost use Rattle.reduce.specs.Output.{tally, Copied, Pushed};
 use records::{Node, Operation};
 
 // How far the tables of a list are used.
-#[derive(Clone, Copy, PartialEq, Eq, Debug)]
+#[derive(Clone, Copy, PartialEq, Eq, Debug, Default)]
 pub struct Tally {
     pub operations: usize,
     pub nodes: usize,
@@ -19,6 +19,7 @@ pub enum TableFault {
 }
 
 // The tables, and how far they are used.
+#[derive(Drop)]
 pub struct Tables<'a> {
     pub operations: &'a mut [Operation],
     pub nodes: &'a mut [Node],
@@ -35,7 +36,7 @@ fn put<T: Copy>(table: &mut [T], place: usize, entry: T)
 }
 
 impl<'a> Tables<'a> {
-    // Of which nothing is used yet.
+    // Tables of which nothing is used yet.
     pub fn unused(operations: &'a mut [Operation], nodes: &'a mut [Node]) -> Tables<'a>
         ensures operations { (result.operations.now ≡ operations.old) × (result.operations.ghost_name ≡ operations.entry.ghost_name) }
         ensures nodes { (result.nodes.now ≡ nodes.old) × (result.nodes.ghost_name ≡ nodes.entry.ghost_name) }
@@ -44,10 +45,7 @@ impl<'a> Tables<'a> {
         Tables {
             operations,
             nodes,
-            used: Tally {
-                operations: 0,
-                nodes: 0,
-            },
+            used: Tally::default(),
         }
     }
 
