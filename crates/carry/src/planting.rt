@@ -5,7 +5,7 @@ ghost use Rattle.carry.specs.Planting.{placed as placed_below, left_for, plant_s
 
 use faults::StoreFault;
 use records::{Kind, Node};
-use store::Writing;
+use store::{Writing, is_child};
 
 // The last child of `parent` among the rows, or else `left`.
 fn last_child(rows: &[Node], parent: u32, left: u32) -> u32
@@ -13,7 +13,7 @@ fn last_child(rows: &[Node], parent: u32, left: u32) -> u32
 {
     rows.iter()
         .rev()
-        .find(|row| row.parent == parent && row.kind != Kind::Attribute)
+        .find(|row| is_child(row, parent))
         .map_or(left, |row| row.id)
 }
 

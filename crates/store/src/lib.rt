@@ -1,11 +1,13 @@
 // Stores of one document: the questions and the writes that every store answers alike, and what they mean.
 #![tactic(auto)]
 
+mod kin;
 mod reading;
 mod tests;
 mod theorems;
 mod writing;
 
+pub use kin::{is_attribute, is_child};
 pub use reading::Reading;
 pub use tests::{test_put, test_rename, test_set_value, test_take};
 pub use theorems::{

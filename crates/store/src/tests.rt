@@ -2,6 +2,7 @@
 ghost use Rattle.std.specs.Prelude.{◌≡◌};
 ghost use Rattle.store.specs.Says.{fits_root, fits_below, fits as node_fits, put_says, take_says, rename_says, set_value_says};
 
+use crate::kin::is_child;
 use crate::reading::Reading;
 use faults::StoreFault;
 use records::{Kind, Node};
@@ -15,7 +16,7 @@ fn fits_root<R: Reading>(store: &R, node: Node, left: u32) -> bool
 fn fits_below<R: Reading>(store: &R, node: Node, left: u32) -> bool
     ensures { result ≡ fits_below (R.Reading.forest store.now) node left }
 {
-    let child = |row: Node| row.parent == node.parent && row.kind != Kind::Attribute;
+    let child = |row: Node| is_child(&row, node.parent);
     let parent = store.node(node.parent);
     parent.is_ok_and(|row| row.kind == Kind::Element)
         && (left == 0 || node.kind != Kind::Attribute && store.node(left).is_ok_and(child))
