@@ -6,13 +6,14 @@ ghost use Rattle.flat.specs.Walks.{child_at, attribute_at, passes as is_passed, 
 
 use crate::rows::FlatRow;
 use records::{Kind, Node};
+use store::{is_attribute, is_child};
 
 // The identifier of the row at `place` if it is a child of `parent`; else 0.
 pub fn child_at(rows: &[FlatRow], place: usize, parent: u32) -> u32
     ensures { result ≡ child_at rows.now (length rows.now) place parent }
 {
     match rows.get(place) {
-        Some(row) if row.node.parent == parent && row.node.kind != Kind::Attribute => row.node.id,
+        Some(row) if is_child(&row.node, parent) => row.node.id,
         _ => 0,
     }
 }
@@ -22,7 +23,7 @@ pub fn attribute_at(rows: &[FlatRow], place: usize, parent: u32) -> u32
     ensures { result ≡ attribute_at rows.now (length rows.now) place parent }
 {
     match rows.get(place) {
-        Some(row) if row.node.parent == parent && row.node.kind == Kind::Attribute => row.node.id,
+        Some(row) if is_attribute(&row.node, parent) => row.node.id,
         _ => 0,
     }
 }
@@ -31,9 +32,7 @@ pub fn attribute_at(rows: &[FlatRow], place: usize, parent: u32) -> u32
 fn passes(node: Node, parent: u32, bound: Option<u32>) -> bool
     ensures { result ≡ is_passed parent bound node }
 {
-    node.parent == parent
-        && node.kind == Kind::Attribute
-        && bound.is_none_or(|last| node.id <= last)
+    is_attribute(&node, parent) && bound.is_none_or(|last| node.id <= last)
 }
 
 // The first place behind the attributes of the row at `place`, or behind those up to a bound.

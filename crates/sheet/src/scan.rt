@@ -4,6 +4,7 @@ ghost use Rattle.store.specs.Listed.{child_row, first_where, last_where};
 ghost use Rattle.sheet.specs.Below.{below_row, next_behind, left_of};
 
 use records::{Kind, Node};
+use store::{is_attribute, is_child};
 
 // Which of the nodes below one are meant; an enum and no closure, so that contracts can name the test.
 #[derive(Clone, Copy)]
@@ -18,8 +19,8 @@ impl Below {
         ensures { result ≡ below_row self parent row.now }
     {
         match self {
-            Below::Children => row.parent == parent && row.kind != Kind::Attribute,
-            Below::Attributes => row.parent == parent && row.kind == Kind::Attribute,
+            Below::Children => is_child(row, parent),
+            Below::Attributes => is_attribute(row, parent),
         }
     }
 }
@@ -36,10 +37,7 @@ pub fn first_of(nodes: &[Node], below: Below, parent: u32) -> u32
 fn last_child(nodes: &[Node], parent: u32) -> u32
     ensures { result ≡ last_where (child_row parent) nodes.now }
 {
-    let last = nodes
-        .iter()
-        .rev()
-        .find(|node| Below::Children.has(parent, node));
+    let last = nodes.iter().rev().find(|node| is_child(node, parent));
     last.map_or(0, |node| node.id)
 }
 
