@@ -8,11 +8,13 @@ use crate::row::Row;
 use ordered::RowOf;
 use std::alloc::{AllocError, Global};
 
-// An entry for each row.
+// An entry for each row. All memory is asked for at once, so that a room that is too large is refused before a row is made.
 fn free_rows(heap: Global, room: usize) -> Result<Vec<RowOf>, AllocError>
     ensures { IfOk result (λ v. (vec_len v ≡ room) × ((k : ℕ) (e : Entry) → k < room → (slice_index_or v.items k e).row ≡ k)) }
 {
-    (0..room).map(|row| RowOf { id: 0, row }).collect(heap)
+    let mut index = Vec::with_capacity(heap, room)?;
+    index.extend((0..room).map(|row| RowOf { id: 0, row }))?;
+    Ok(index)
 }
 
 impl Table {
