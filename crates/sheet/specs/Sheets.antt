@@ -1,9 +1,10 @@
 -- Tables that list what a store may hold, within the room of a sheet.
 use Rattle.std.specs.Prelude.{◌≡◌, ℕ, ◌<◌, ◌≤◌, List, length, Some, None, Ok, Err, Result, slice_index_or}
 use Rattle.records.specs.declared.nodes.Node.{Node}
+use Rattle.faults.specs.declared.DocumentFault.{DocumentFault}
 use Rattle.faults.specs.declared.StoreFault.{StoreFault}
 use Rattle.faults.specs.declared.StoreFault.TheVariants.{Absent}
-use Rattle.document.specs.Tree.{size}
+use Rattle.document.specs.Tree.{Forest, nil, size}
 use Rattle.document.specs.Listing.{listing}
 use Rattle.document.specs.Table.{document_of}
 use Rattle.store.specs.Kept.{Kept}
@@ -16,6 +17,11 @@ pub record Lists (xs : List Node) : Type 0 where
   pub kept : Kept (document_of xs)
   pub listed : listing (document_of xs) ≡ xs
   pub within : size (document_of xs) ≤ 1000
+
+-- the document of a table that passed, nothing of one that was refused
+abbrev pub document_if : Result (Unit {0}) DocumentFault → List Node → Forest
+document_if (Ok u) xs = document_of xs
+document_if (Err e) xs = nil
 
 -- the node t in row i, as the table shows it
 abbrev pub view_at : List Node → ℕ → ℕ → View

@@ -7,6 +7,7 @@ use faults::Report;
 use flat::FlatStore;
 use linked::LinkedStore;
 use nodetable::Slot;
+use records::Node;
 use sheet::Sheet;
 use std::process::Abort;
 use std::test::Fail;
@@ -46,33 +47,63 @@ fn flat_store(rt: HostRuntime) -> Result<(), Fail> {
     Ok(())
 }
 
+// A room that no memory has is refused at once, before a row is made.
 #[test]
-fn sheet(rt: HostRuntime) -> Result<(), Fail> {
-    let nodes = [
+fn room_beyond_memory(rt: HostRuntime) {
+    assert!(rt; LinkedStore::with_room(rt.alloc(), usize::MAX).is_err());
+    assert!(rt; FlatStore::with_room(rt.alloc(), usize::MAX).is_err());
+}
+
+// The frame with its pump, as a table.
+fn frame() -> [Node; 6] {
+    [
         element(1, 0, 10),
         attribute(2, 1, 20, 7),
         element(3, 1, 11),
         text(4, 3, 500),
         element(5, 1, 11),
         element(6, 1, 12),
-    ];
+    ]
+}
+
+#[test]
+fn sheet(rt: HostRuntime) {
+    let nodes = frame();
     let mut slots = [Slot::EMPTY; 6];
-    let Ok(sheet) = Sheet::open(&nodes, &mut slots) else {
-        return Err(Fail::new("refused"));
-    };
+    let (sheet, answer) = Sheet::open(&nodes, &mut slots);
+    assert!(rt; answer.is_ok());
     ask_neighbours(&rt, &sheet);
     ask_places(&rt, &sheet);
     ask_absent(&rt, &sheet, 0);
     ask_absent(&rt, &sheet, 7);
-    Ok(())
 }
 
-// A table that is refused makes no sheet; the empty sheet has no nodes.
+// A table that is refused makes a sheet without nodes.
 #[test]
 fn refused_sheet(rt: HostRuntime) -> Result<(), Fail> {
     let nodes = [element(1, 0, 10), element(1, 1, 11)];
     let mut slots = [Slot::EMPTY; 2];
-    match Sheet::open(&nodes, &mut slots) {
+    let (sheet, answer) = Sheet::open(&nodes, &mut slots);
+    match answer {
+        Ok(()) => return Err(Fail::new("accepted")),
+        Err(fault) => assert_eq!(rt; Report::from(fault).number, 4),
+    }
+    ask_absent(&rt, &sheet, 1);
+    Ok(())
+}
+
+// The same as a result: a sheet, or the fault alone.
+#[test]
+fn sheet_or_fault(rt: HostRuntime) -> Result<(), Fail> {
+    let nodes = frame();
+    let mut slots = [Slot::EMPTY; 6];
+    let Ok(sheet) = Sheet::try_open(&nodes, &mut slots) else {
+        return Err(Fail::new("refused"));
+    };
+    ask_neighbours(&rt, &sheet);
+    ask_absent(&rt, &sheet, 7);
+    let twice = [element(1, 0, 10), element(1, 1, 11)];
+    match Sheet::try_open(&twice, &mut slots) {
         Ok(_) => return Err(Fail::new("accepted")),
         Err(fault) => assert_eq!(rt; Report::from(fault).number, 4),
     }
