@@ -6,7 +6,7 @@ use Rattle.document.specs.Listing.{rows}
 use Rattle.walk.specs.Written.{written}
 use Rattle.reduce.specs.declared.keys.Entry.{Entry}
 use Rattle.reduce.specs.declared.keys.Key.{Key}
-use Rattle.reduce.specs.declared.lookup.Lookup.{Lookup}
+use Rattle.reduce.specs.declared.ordered_list.OrderedList.{OrderedList}
 use Rattle.reduce.specs.declared.tables.Tables.{Tables}
 use Rattle.reduce.specs.Mirror.{group}
 use Rattle.reduce.specs.Groups.{blank, entry_for, Begins}
@@ -16,7 +16,7 @@ use Rattle.reduce.proofs.Scanning.{group_is, stretch_more}
 use Rattle.reduce.proofs.Indexing.{no_entry, rows_from, Run, run_begins, RunOn, run_on, run_ends}
 use Rattle.reduce.proofs.Readied.{ready}
 
-module _ (me : Lookup) (key : Key) (entries : List Entry) (t0 : Tables) where
+module _ (me : OrderedList) (key : Key) (entries : List Entry) (t0 : Tables) where
   abbrev pub from : ℕ → List Node
   from q = rows_from key.target key.code me.operations.now me.nodes.now q
 

@@ -13,7 +13,7 @@ use Rattle.records.specs.declared.nodes.Node.{Node}
 use Rattle.records.specs.declared.operations.Operation.{Operation}
 use Rattle.reduce.specs.contracts.keys.Entry.{the_row as entry_row}
 use Rattle.reduce.specs.declared.keys.Entry.{Entry}
-use Rattle.reduce.specs.declared.lookup.Lookup.{Lookup}
+use Rattle.reduce.specs.declared.ordered_list.OrderedList.{OrderedList}
 use Rattle.reduce.proofs.Indexing.{no_entry}
 use Rattle.reduce.specs.Groups.{Stretches, IndexedTo, Ready}
 
@@ -59,5 +59,5 @@ ready_prop ops xs es u w t = record {
   indexed = indexed_prop (length ops) ops es u.indexed w.indexed t;
 }
 
-pub ready : (l : Lookup) → Ready l.operations.now l.nodes.now l.entries.now
+pub ready : (l : OrderedList) → Ready l.operations.now l.nodes.now l.entries.now
 ready l = ∥∥₁_elim l.ready (ready_prop l.operations.now l.nodes.now l.entries.now) (λ h. h)

@@ -8,12 +8,12 @@ ghost use Rattle.reduce.specs.Lists.{changes};
 ghost use Rattle.reduce.specs.Output.{Copied};
 
 use crate::keys::{Entry, Key};
-use crate::lookup::Lookup;
+use crate::ordered_list::OrderedList;
 use crate::tables::Tables;
 use ordered::find;
 use records::{Code, Operation};
 
-impl Lookup<'_> {
+impl OrderedList<'_> {
     // The place of the first entry of a key, or where it would stand.
     fn place_of(&self, key: Key) -> usize
         ensures { Begins key.target key.code self.now.operations.now self.now.entries.now result }

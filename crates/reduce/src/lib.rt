@@ -5,6 +5,7 @@ mod filling;
 mod finding;
 mod keys;
 mod lookup;
+mod ordered_list;
 mod parts;
 mod reducing;
 mod tables;

@@ -1,6 +1,4 @@
 // A change list that can be looked up in.
-ghost use Rattle.reduce.specs.Groups.{Ready};
-
 use crate::keys::Entry;
 use records::{Node, Operation};
 
@@ -10,5 +8,4 @@ pub struct Lookup<'a> {
     pub operations: &'a [Operation],
     pub nodes: &'a [Node],
     pub entries: &'a [Entry],
-    ghost ready: { ∥ Ready operations.now nodes.now entries.now ∥₁ },
 }

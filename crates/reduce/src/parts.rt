@@ -10,7 +10,7 @@ ghost use Rattle.reduce.specs.Mirror.{group, value_on, name_on, departure, given
 ghost use Rattle.reduce.specs.Output.{bare, Grown, RoomFor};
 
 use crate::keys::Key;
-use crate::lookup::Lookup;
+use crate::ordered_list::OrderedList;
 use crate::tables::Tables;
 use records::{Code, Operation};
 
@@ -40,7 +40,7 @@ fn departing_code(count: u32) -> Code
 
 impl Tables<'_> {
     // One insertion with the nodes of all these groups, if there are any.
-    fn insert(&mut self, list: &Lookup, keys: &[Key], target: u32, code: Code)
+    fn insert(&mut self, list: &OrderedList, keys: &[Key], target: u32, code: Code)
         requires { RoomFor self.old.used (insertion target code (gathered (changes list.now) keys.now)) }
         ensures { Grown self.old self.new (insertion target code (gathered (changes list.now) keys.now)) }
     {
@@ -56,7 +56,7 @@ impl Tables<'_> {
     }
 
     // A new value, if there is one.
-    fn put_value(&mut self, list: &Lookup, target: u32)
+    fn put_value(&mut self, list: &OrderedList, target: u32)
         requires { self.old.used.operations < 2 ^ 32 }
         ensures { Grown self.old self.new (new_value target (value_on (changes list.now) target)) }
     {
@@ -70,7 +70,7 @@ impl Tables<'_> {
     }
 
     // A new name, if there is one.
-    fn put_name(&mut self, list: &Lookup, target: u32)
+    fn put_name(&mut self, list: &OrderedList, target: u32)
         requires { self.old.used.operations < 2 ^ 32 }
         ensures { Grown self.old self.new (new_name target (name_on (changes list.now) target)) }
     {
@@ -84,7 +84,7 @@ impl Tables<'_> {
     }
 
     // A node that goes.
-    fn depart(&mut self, list: &Lookup, target: u32)
+    fn depart(&mut self, list: &OrderedList, target: u32)
         requires { RoomFor self.old.used (departure (changes list.now) target) }
         ensures { Grown self.old self.new (departure (changes list.now) target) }
     {
@@ -99,7 +99,7 @@ impl Tables<'_> {
     }
 
     // New content, if there is some.
-    fn put_content(&mut self, list: &Lookup, target: u32)
+    fn put_content(&mut self, list: &OrderedList, target: u32)
         requires { RoomFor self.old.used (replacement target ReplaceContent (given_if (has_change ReplaceContent target (changes list.now)) (group (changes list.now) target ReplaceContent))) }
         ensures { Grown self.old self.new (replacement target ReplaceContent (given_if (has_change ReplaceContent target (changes list.now)) (group (changes list.now) target ReplaceContent))) }
     {
@@ -116,7 +116,7 @@ impl Tables<'_> {
     }
 
     // The insertions before a node's children, unless its content is replaced; `below` is what else comes before them.
-    fn insert_first(&mut self, list: &Lookup, target: u32, below: Key)
+    fn insert_first(&mut self, list: &OrderedList, target: u32, below: Key)
         requires { RoomFor self.old.used (if has_change ReplaceContent target (changes list.now) then [] else insertion target InsertFirst (group (changes list.now) target InsertFirst ⊕ (group (changes list.now) target InsertInto ⊕ group (changes list.now) below.target below.code))) }
         ensures { Grown self.old self.new (if has_change ReplaceContent target (changes list.now) then [] else insertion target InsertFirst (group (changes list.now) target InsertFirst ⊕ (group (changes list.now) target InsertInto ⊕ group (changes list.now) below.target below.code))) }
     {
@@ -135,7 +135,7 @@ impl Tables<'_> {
     }
 
     // What is left inside a node that stays.
-    fn left_inside(&mut self, list: &Lookup, target: u32, below: Key)
+    fn left_inside(&mut self, list: &OrderedList, target: u32, below: Key)
         requires { RoomFor self.old.used (left_inside (changes list.now) target (group (changes list.now) below.target below.code)) }
         ensures { Grown self.old self.new (left_inside (changes list.now) target (group (changes list.now) below.target below.code)) }
     {
@@ -148,7 +148,7 @@ impl Tables<'_> {
     }
 
     // What is left on one node; `behind` and `below` are what else is inserted behind it and before its first child.
-    pub fn left_on(&mut self, list: &Lookup, target: u32, behind: Key, below: Key)
+    pub fn left_on(&mut self, list: &OrderedList, target: u32, behind: Key, below: Key)
         requires { RoomFor self.old.used (left_on (changes list.now) target (group (changes list.now) behind.target behind.code) (group (changes list.now) below.target below.code)) }
         ensures { Grown self.old self.new (left_on (changes list.now) target (group (changes list.now) behind.target behind.code) (group (changes list.now) below.target below.code)) }
     {
@@ -162,7 +162,7 @@ impl Tables<'_> {
     }
 
     // What is left on one attribute.
-    pub fn left_on_attribute(&mut self, list: &Lookup, target: u32)
+    pub fn left_on_attribute(&mut self, list: &OrderedList, target: u32)
         requires { RoomFor self.old.used (left_on_attribute (changes list.now) target) }
         ensures { Grown self.old self.new (left_on_attribute (changes list.now) target) }
     {

@@ -2,15 +2,17 @@
 ghost use Rattle.std.specs.Prelude.{◌≡◌, ◌<◌, if◌then◌else◌};
 ghost use Rattle.document.specs.Tree.{WellFormed};
 ghost use Rattle.changes.specs.Reduced.{reduced};
+ghost use Rattle.changes.specs.Tables.{changes_of};
 ghost use Rattle.changes.specs.Tests.{Suits};
 ghost use Rattle.walk.specs.Ahead.{ahead, Walks, attributes_of, behind_node, after_node};
-ghost use Rattle.reduce.specs.Groups.{gap_key};
+ghost use Rattle.reduce.specs.Groups.{Ready, gap_key};
 ghost use Rattle.reduce.specs.Lists.{changes};
 ghost use Rattle.reduce.specs.Mirror.{cuts, left_on_attributes, left_ahead, reduced_row};
 ghost use Rattle.reduce.specs.Output.{tally, Adds, Grown, RoomFor, write_says, operations_after, nodes_after};
 
 use crate::keys::Key;
 use crate::lookup::Lookup;
+use crate::ordered_list::OrderedList;
 use crate::tables::{TableFault, Tables, Tally};
 use records::{Code, Node, Operation};
 use store::Reading;
@@ -34,7 +36,7 @@ fn gap_key(head: u32, above: u32) -> Key
 }
 
 // What is left on the attributes of a node.
-fn reduce_attributes<R: Reading>(store: &R, list: &Lookup, id: u32, tables: &mut Tables)
+fn reduce_attributes<R: Reading>(store: &R, list: &OrderedList, id: u32, tables: &mut Tables)
     requires walks { Walks (R.Reading.forest store.now) id }
     requires node { 0 < id }
     requires fits { RoomFor tables.old.used (left_on_attributes (changes list.now) (attributes_of (R.Reading.forest store.now) id)) }
@@ -49,7 +51,7 @@ fn reduce_attributes<R: Reading>(store: &R, list: &Lookup, id: u32, tables: &mut
 }
 
 // What is left on a node and its attributes.
-fn reduce_node<R: Reading>(store: &R, list: &Lookup, id: u32, tables: &mut Tables)
+fn reduce_node<R: Reading>(store: &R, list: &OrderedList, id: u32, tables: &mut Tables)
     requires walks { Walks (R.Reading.forest store.now) id }
     requires node { 0 < id }
     requires fits { RoomFor tables.old.used (left_ahead (changes list.now) (ahead (R.Reading.forest store.now) id)) }
@@ -65,7 +67,7 @@ fn reduce_node<R: Reading>(store: &R, list: &Lookup, id: u32, tables: &mut Table
 }
 
 // Where the walk goes from a node: not to what is below it, if all of that is overridden.
-fn next<R: Reading>(store: &R, list: &Lookup, id: u32) -> u32
+fn next<R: Reading>(store: &R, list: &OrderedList, id: u32) -> u32
     ensures { result ≡ (if cuts (changes list.now) id then behind_node (R.Reading.forest store.now) id else after_node (R.Reading.forest store.now) id) }
 {
     if list.goes(id) || list.has(id, Code::ReplaceContent) {
@@ -76,7 +78,7 @@ fn next<R: Reading>(store: &R, list: &Lookup, id: u32) -> u32
 }
 
 // Writes the reduced list as far as the tables go.
-fn reduce_all<R: Reading>(store: &R, list: &Lookup, tables: &mut Tables)
+fn reduce_all<R: Reading>(store: &R, list: &OrderedList, tables: &mut Tables)
     requires { RoomFor tables.old.used (reduced_row (changes list.now) 0 (R.Reading.forest store.now)) }
     ensures { Grown tables.old tables.new (reduced_row (changes list.now) 0 (R.Reading.forest store.now)) }
 {
@@ -91,7 +93,7 @@ fn reduce_all<R: Reading>(store: &R, list: &Lookup, tables: &mut Tables)
 // Writes the reduced list into two tables as far as they go, and answers how long it is.
 fn write_as_far<R: Reading>(
     store: &R,
-    list: &Lookup,
+    list: &OrderedList,
     operations: &mut [Operation],
     nodes: &mut [Node],
 ) -> Tally
@@ -110,16 +112,22 @@ pub fn write_reduced<R: Reading>(
     operations: &mut [Operation],
     nodes: &mut [Node],
 ) -> Result<Tally, TableFault>
+    requires ready { Ready list.operations.now list.nodes.now list.entries.now }
     requires formed { WellFormed (R.Reading.forest store.now) }
-    requires suits { Suits (R.Reading.limit store.now) (R.Reading.forest store.now) (changes list) }
-    requires fits { RoomFor (tally 0 0) (reduced (R.Reading.forest store.now) (changes list)) }
-    ensures value { result ≡ write_says operations.old nodes.old (reduced (R.Reading.forest store.now) (changes list.entry)) }
-    ensures operation_table { operations.new ≡ operations_after operations.old nodes.old (reduced (R.Reading.forest store.now) (changes list.entry)) }
-    ensures node_table { nodes.new ≡ nodes_after operations.old nodes.old (reduced (R.Reading.forest store.now) (changes list.entry)) }
+    requires suits { Suits (R.Reading.limit store.now) (R.Reading.forest store.now) (changes_of list.operations.now list.nodes.now) }
+    requires fits { RoomFor (tally 0 0) (reduced (R.Reading.forest store.now) (changes_of list.operations.now list.nodes.now)) }
+    ensures value { result ≡ write_says operations.old nodes.old (reduced (R.Reading.forest store.now) (changes_of list.entry.operations.now list.entry.nodes.now)) }
+    ensures operation_table { operations.new ≡ operations_after operations.old nodes.old (reduced (R.Reading.forest store.now) (changes_of list.entry.operations.now list.entry.nodes.now)) }
+    ensures node_table { nodes.new ≡ nodes_after operations.old nodes.old (reduced (R.Reading.forest store.now) (changes_of list.entry.operations.now list.entry.nodes.now)) }
 {
-    let need = write_as_far(store, &list, &mut [], &mut []);
+    let ordered = OrderedList {
+        operations: list.operations,
+        nodes: list.nodes,
+        entries: list.entries,
+    };
+    let need = write_as_far(store, &ordered, &mut [], &mut []);
     if operations.len() < need.operations || nodes.len() < need.nodes {
         return Err(TableFault::TableShort);
     }
-    Ok(write_as_far(store, &list, operations, nodes))
+    Ok(write_as_far(store, &ordered, operations, nodes))
 }

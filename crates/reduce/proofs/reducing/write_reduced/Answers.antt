@@ -2,8 +2,7 @@ use Rattle.std.proofs.Common.{◌≡◌, List, [], length, sym, ap, ◌∙◌, s
 use Rattle.document.specs.Tree.{Forest}
 use Rattle.changes.specs.Changes.{Change}
 use Rattle.changes.specs.Reduced.{reduced}
-use Rattle.changes.specs.Tables.{operation_rows, node_rows}
-use Rattle.reduce.specs.Lists.{changes}
+use Rattle.changes.specs.Tables.{changes_of, operation_rows, node_rows}
 use Rattle.reduce.specs.declared.tables.Tally.{Tally}
 use Rattle.reduce.specs.Output.{output, tally, with_changes, RoomFor}
 use Rattle.reduce.proofs.Suitable.{reduced_is_read_off}
@@ -13,13 +12,13 @@ use Rattle.reduce.proofs.reducing.write_reduced.Goals as goal
 pub write_as_far-need-requires : goal.write_as_far-need-requires
 write_as_far-need-requires g c =
     let d : Forest = g.R.Reading.forest c.args.store.now in
-    let l : List Change = changes c.args.list in
+    let l : List Change = changes_of c.args.list.operations.now c.args.list.nodes.now in
     subst (RoomFor (tally 0 0)) (reduced_is_read_off (g.R.Reading.limit c.args.store.now) d l c.requires.formed c.requires.suits) c.requires.fits
 
 pub returns-then-operations-need : goal.returns-then-operations-need
 returns-then-operations-need g c =
     let d : Forest = g.R.Reading.forest c.args.store.now in
-    let l : List Change = changes c.args.list in
+    let l : List Change = changes_of c.args.list.operations.now c.args.list.nodes.now in
     let e = reduced_is_read_off (g.R.Reading.limit c.args.store.now) d l c.requires.formed c.requires.suits in
     let n : c.write_as_far-need.result ≡ tally (length (operation_rows (reduced d l))) (length (node_rows (reduced d l))) =
     needed (reduced d l) [] [] [] _ [] _ c.write_as_far-need.result (c.write_as_far-need.ensures ∙ ap (with_changes (output [] [] (tally 0 0))) (sym e)) in
@@ -29,13 +28,13 @@ returns-then-operations-need g c =
 pub write_as_far-requires : goal.write_as_far-requires
 write_as_far-requires g c =
     let d : Forest = g.R.Reading.forest c.args.store.now in
-    let l : List Change = changes c.args.list in
+    let l : List Change = changes_of c.args.list.operations.now c.args.list.nodes.now in
     subst (RoomFor (tally 0 0)) (reduced_is_read_off (g.R.Reading.limit c.args.store.now) d l c.requires.formed c.requires.suits) c.requires.fits
 
 pub returns : goal.returns
 returns g c =
     let d : Forest = g.R.Reading.forest c.args.store.now in
-    let l : List Change = changes c.args.list in
+    let l : List Change = changes_of c.args.list.operations.now c.args.list.nodes.now in
     let e = reduced_is_read_off (g.R.Reading.limit c.args.store.now) d l c.requires.formed c.requires.suits in
     let n : c.write_as_far-need.result ≡ tally (length (operation_rows (reduced d l))) (length (node_rows (reduced d l))) =
     needed (reduced d l) [] [] [] _ [] _ c.write_as_far-need.result (c.write_as_far-need.ensures ∙ ap (with_changes (output [] [] (tally 0 0))) (sym e)) in

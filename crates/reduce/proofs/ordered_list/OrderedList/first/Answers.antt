@@ -4,7 +4,7 @@ use Rattle.reduce.specs.declared.keys.Entry.{Entry}
 use Rattle.reduce.specs.Groups.{blank, entry_for}
 use Rattle.reduce.proofs.Indexing.{no_entry, nothing_first, found_first}
 use Rattle.reduce.proofs.Readied.{ready}
-use Rattle.reduce.proofs.lookup.Lookup.first.Goals as goal
+use Rattle.reduce.proofs.ordered_list.OrderedList.first.Goals as goal
 
 pub returns-in-Some : goal.returns-in-Some
 returns-in-Some c =

@@ -11,7 +11,7 @@ use Rattle.reduce.specs.Groups.{gathered}
 use Rattle.reduce.specs.Lists.{changes}
 use Rattle.reduce.specs.Output.{Output}
 use Rattle.reduce.proofs.Scanning.{front, rows-⊕, no_key}
-use Rattle.reduce.proofs.lookup.Lookup.copy_groups.Goals as goal
+use Rattle.reduce.proofs.ordered_list.OrderedList.copy_groups.Goals as goal
 
 pub copy_group-requires : goal.copy_group-requires
 copy_group-requires c =

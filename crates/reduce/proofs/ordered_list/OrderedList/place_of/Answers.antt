@@ -3,7 +3,7 @@ use Rattle.ordered.specs.Table.{Ascending, Least}
 use Rattle.reduce.specs.Groups.{by_entry}
 use Rattle.reduce.proofs.Ordering.{begins}
 use Rattle.reduce.proofs.Readied.{ready}
-use Rattle.reduce.proofs.lookup.Lookup.place_of.Goals as goal
+use Rattle.reduce.proofs.ordered_list.OrderedList.place_of.Goals as goal
 
 pub returns : goal.returns
 returns c =

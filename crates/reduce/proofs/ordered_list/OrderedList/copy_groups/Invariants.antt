@@ -4,7 +4,7 @@ use Rattle.walk.specs.Written.{written}
 use Rattle.reduce.specs.Groups.{gathered}
 use Rattle.reduce.specs.Lists.{changes}
 use Rattle.reduce.specs.Output.{SameTables}
-use Rattle.reduce.proofs.lookup.Lookup.copy_groups.Given as goal
+use Rattle.reduce.proofs.ordered_list.OrderedList.copy_groups.Given as goal
 
 abbrev pub invariant-loop-key : goal.invariant-loop-key
 invariant-loop-key l =

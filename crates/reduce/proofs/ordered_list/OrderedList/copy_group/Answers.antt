@@ -3,7 +3,7 @@ use Rattle.std.proofs.lemmas.List.{length-take-le}
 use Rattle.reduce.specs.Groups.{blank}
 use Rattle.reduce.proofs.Indexing.{no_entry}
 use Rattle.reduce.proofs.Copying.{none_passed, all_passed, known, inside, small, one_passed}
-use Rattle.reduce.proofs.lookup.Lookup.copy_group.Goals as goal
+use Rattle.reduce.proofs.ordered_list.OrderedList.copy_group.Goals as goal
 
 pub loop-entry-init : goal.loop-entry-init
 loop-entry-init c = none_passed c.args.self.now c.args.key _ c.args.tables.now c.place_of.result c.place_of.ensures c.split_at.ensures.back
