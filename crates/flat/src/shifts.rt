@@ -66,12 +66,9 @@ pub fn take_out(rows: &mut [FlatRow], used: usize, gone: usize)
     requires distances { (k : ℕ) → 0 < k → k < used → (0 < (at rows.old k).distance) × ((at rows.old k).distance ≤ k) }
     ensures { Taken rows.old used gone rows.new }
 {
-    change_each(&mut rows[..used], |place, row| {
-        if place <= gone {
-            shrunk(row, place, gone)
-        } else {
-            drawn(row, place, gone)
-        }
+    change_each(&mut rows[..gone], |place, row| shrunk(row, place, gone));
+    change_each(&mut rows[gone + 1..used], |behind, row| {
+        drawn(row, gone + 1 + behind, gone)
     });
     rows.copy_within(gone + 1..used, gone);
 }
@@ -140,12 +137,11 @@ pub fn put_in(rows: &mut [FlatRow], used: usize, spot: Spot, node: Node)
     requires distances { (k : ℕ) → spot.place ≤ k → k < used → (at rows.old k).distance ≤ k }
     ensures { Planted rows.old used spot.place spot.parent node rows.new }
 {
-    change_each(&mut rows[..used], |place, row| {
-        if place < spot.place {
-            grown(row, place, spot.parent)
-        } else {
-            lifted(row, place, spot.place)
-        }
+    change_each(&mut rows[..spot.place], |place, row| {
+        grown(row, place, spot.parent)
+    });
+    change_each(&mut rows[spot.place..used], |behind, row| {
+        lifted(row, spot.place + behind, spot.place)
     });
     rows.copy_within(spot.place..used, spot.place + 1);
     rows[spot.place] = FlatRow {
