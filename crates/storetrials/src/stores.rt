@@ -101,9 +101,11 @@ fn sheet_or_fault(rt: HostRuntime) -> Result<(), Fail> {
         return Err(Fail::new("refused"));
     };
     ask_neighbours(&rt, &sheet);
+    ask_places(&rt, &sheet);
+    ask_absent(&rt, &sheet, 0);
     ask_absent(&rt, &sheet, 7);
     let twice = [element(1, 0, 10), element(1, 1, 11)];
-    match Sheet::try_open(&twice, &mut slots) {
+    match Sheet::try_open(&twice, &mut slots[..2]) {
         Ok(_) => return Err(Fail::new("accepted")),
         Err(fault) => assert_eq!(rt; Report::from(fault).number, 4),
     }
