@@ -1,6 +1,7 @@
 -- The first misformed node is the first that fails the test.
 use Rattle.std.proofs.Common.{◌≡◌, ℕ, suc, ◌+◌, Bool, true, false, cond, not, ltb, List, [], ◌∷◌, length, Some, None, sym, refl, ap, ◌∙◌, lt-ltb, arith, rules}
 use Rattle.std.specs.List.{position, position_or_len}
+use Rattle.std.specs.Option.{option_map}
 use Rattle.records.specs.Formed.{formed_node}
 use Rattle.records.specs.declared.nodes.Node.{Node}
 use Rattle.document.specs.Table.{misformed_from}
@@ -24,7 +25,9 @@ from n (x ∷ xs) = go (formed_node x) (from (n + 1) xs)
         let some : ltb 0 (suc (length xs)) ≡ true = lt-ltb 0 (suc (length xs)) (omega arith) in
         rw some (ap Some e)
 
-pub misformed_is_position : (xs : List Node) → position ill xs ≡ misformed_from 0 xs
-misformed_is_position xs =
-    let e : position_or_len ill xs ≡ 0 + position_or_len ill xs = omega arith in
-    ap (λ m. cond (ltb (position_or_len ill xs) (length xs)) (Some m) None) e ∙ sym (from 0 xs)
+pub misformed_is_position : (n : ℕ) (xs : List Node) → option_map (λ k. n + k) (position ill xs) ≡ misformed_from n xs
+misformed_is_position n xs = go (ltb (position_or_len ill xs) (length xs)) ∙ sym (from n xs)
+  where
+    go : (b : Bool) → option_map (λ k. n + k) (cond b (Some (position_or_len ill xs)) None) ≡ cond b (Some (n + position_or_len ill xs)) None
+    go true = refl
+    go false = refl

@@ -1,5 +1,5 @@
 // The tests in their order, each over the whole table.
-ghost use Rattle.std.specs.Prelude.{◌≡◌, ◌≤◌, length};
+ghost use Rattle.std.specs.Prelude.{◌≡◌, ◌≤◌, length, drop};
 ghost use Rattle.document.specs.Table.{misformed_from, identifier_key, name_key, over_room, table_test};
 ghost use Rattle.nodetable.specs.Scratch.{cleared};
 ghost use Rattle.nodetable.specs.Tested.{tested};
@@ -10,10 +10,19 @@ use crate::scratch::{Guard, Slot};
 use faults::DocumentFault;
 use records::{Kind, Node};
 
+// The first misformed node from a place on.
+fn misformed_behind(nodes: &[Node], start: usize) -> Option<usize>
+    ensures { result ≡ misformed_from start (drop start nodes.now) }
+{
+    let behind = nodes.get(start..)?;
+    let passed = behind.iter().position(|node| !node.is_formed())?;
+    Some(start + passed)
+}
+
 pub fn first_misformed(nodes: &[Node]) -> Option<usize>
     ensures { result ≡ misformed_from 0 nodes.now }
 {
-    nodes.iter().position(|node| !node.is_formed())
+    misformed_behind(nodes, 0)
 }
 
 // No identifier may stand twice in a table.
